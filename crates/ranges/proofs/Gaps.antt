@@ -62,7 +62,7 @@ module _ {T : Type 0} (row : T → Row) where
     within = let w = r .within in omega arith;
     here = elim (r .here) [ inl x ↦ inl (begins-suc b e es k ∙ x) | inr y ↦ inr (ap suc (y .0), y .1) ];
     earlier = λ (m : ℕ). elim m as (λ (q : ℕ). q < suc k → begins b (e ∷ es) q ≡ true)
-      [ zero ↦ λ lt. first-begins b e es true c | suc q ↦ λ lt. begins-suc b e es q ∙ r .earlier q (le-of-suc-le-suc lt) ];
+        [ zero ↦ λ lt. first-begins b e es true c | suc q ↦ λ lt. begins-suc b e es q ∙ r .earlier q (le-of-suc-le-suc lt) ];
   }
 
   gap-here : (b : Option (Bound T)) (e : Edge T) (es : List (Edge T)) → continues row b (e .lower) ≡ false → First-gap b (e ∷ es) 0
@@ -75,17 +75,19 @@ module _ {T : Type 0} (row : T → Row) where
   found j b e [] same =
       let z : j ≡ j + 0 = omega arith in
       let y : j + 1 - 1 ≡ j + 0 = omega arith in
-      elim (else-some (continues row b (e .lower)) same)
-      [ inl p ↦ elim (else-some (unbounded (e .upper)) (p .1)) [ inl q ↦ absurd (some-none (sym (q .1))) | inr q ↦ (0, (q .1 ∙ y, gap-last b e (q .0))) ]
-      | inr p ↦ (0, (p .1 ∙ z, gap-here b e [] (p .0))) ]
+      elim (else-some (continues row b (e .lower)) same) [
+        | inl p ↦ elim (else-some (unbounded (e .upper)) (p .1)) [ inl q ↦ absurd (some-none (sym (q .1))) | inr q ↦ (0, (q .1 ∙ y, gap-last b e (q .0))) ]
+        | inr p ↦ (0, (p .1 ∙ z, gap-here b e [] (p .0)))
+      ]
   found j b e (e′ ∷ es) same =
       let z : j ≡ j + 0 = omega arith in
-      elim (else-some (continues row b (e .lower)) same)
-      [ inl p ↦
-        let r = found (j + 1) (Some (e .upper)) e′ es (p .1) in
-        let y : j + 1 + r .0 ≡ j + suc (r .0) = omega arith in
-        (suc (r .0), (r .1 .0 ∙ y, gap-more b e (e′ ∷ es) (r .0) (p .0) (r .1 .1)))
-      | inr p ↦ (0, (p .1 ∙ z, gap-here b e (e′ ∷ es) (p .0))) ]
+      elim (else-some (continues row b (e .lower)) same) [
+        | inl p ↦
+            let r = found (j + 1) (Some (e .upper)) e′ es (p .1) in
+            let y : j + 1 + r .0 ≡ j + suc (r .0) = omega arith in
+            (suc (r .0), (r .1 .0 ∙ y, gap-more b e (e′ ∷ es) (r .0) (p .0) (r .1 .1)))
+        | inr p ↦ (0, (p .1 ∙ z, gap-here b e (e′ ∷ es) (p .0)))
+      ]
 
   found-none : (j : ℕ) (b : Option (Bound T)) (e : Edge T) (es : List (Edge T)) → uncovered-from row j b (e ∷ es) ≡ None → No-gap b (e ∷ es)
   found-none j b e [] same =
@@ -100,9 +102,9 @@ module _ {T : Type 0} (row : T → Row) where
       let r = found-none (j + 1) (Some (e .upper)) e′ es (p .1) in
       record {
         joined = λ (m : ℕ). elim m as (λ (q : ℕ). q < suc (length (e′ ∷ es)) → begins b (e ∷ e′ ∷ es) q ≡ true)
-          [ zero ↦ λ lt. first-begins b e (e′ ∷ es) true (p .0) | suc q ↦ λ lt. begins-suc b e (e′ ∷ es) q ∙ r .joined q (le-of-suc-le-suc lt) ];
+            [ zero ↦ λ lt. first-begins b e (e′ ∷ es) true (p .0) | suc q ↦ λ lt. begins-suc b e (e′ ∷ es) q ∙ r .joined q (le-of-suc-le-suc lt) ];
         ended = λ (m : ℕ). elim m as (λ (q : ℕ). suc (length (e′ ∷ es)) ≡ suc q → unbounded (getD (e ∷ e′ ∷ es) q no-edge .upper) ≡ true)
-          [ zero ↦ λ lt. absurd (omega arith) | suc q ↦ λ lt. r .ended q (omega arith) ];
+            [ zero ↦ λ lt. absurd (omega arith) | suc q ↦ λ lt. r .ended q (omega arith) ];
       }
 
   -- the place is a gap, in the words of the statement
@@ -119,18 +121,21 @@ module _ {T : Type 0} (row : T → Row) where
 
   not-gap : (es : List (Edge T)) (k : ℕ) → No-gap None es → Gap row es k → ⊥
   not-gap es k none gap =
-      elim (gap .1)
-      [ inl x ↦ both-ways (begins None es k) (same-begins es k ∙ x) (none .joined k (gap .0))
-      | inr y ↦ both-ways (unbounded (getD es k no-edge .upper)) (y .1) (none .ended k (y .0)) ]
+      elim (gap .1) [
+        | inl x ↦ both-ways (begins None es k) (same-begins es k ∙ x) (none .joined k (gap .0))
+        | inr y ↦ both-ways (unbounded (getD es k no-edge .upper)) (y .1) (none .ended k (y .0))
+      ]
 
   gap-first : (es : List (Edge T)) (j k : ℕ) → First-gap None es j → Gap row es k → j ≤ k
   gap-first es j k w gap =
-      elim (cases-lt k j)
-      [ inl lt ↦
-        elim (gap .1)
-        [ inl x ↦ absurd (both-ways (begins None es k) (same-begins es k ∙ x) (w .earlier k lt))
-        | inr y ↦ let last = y .0 in let inside = w .within in absurd (omega arith) ]
-      | inr ge ↦ ge ]
+      elim (cases-lt k j) [
+        | inl lt ↦
+            elim (gap .1) [
+              | inl x ↦ absurd (both-ways (begins None es k) (same-begins es k ∙ x) (w .earlier k lt))
+              | inr y ↦ let last = y .0 in let inside = w .within in absurd (omega arith)
+            ]
+        | inr ge ↦ ge
+      ]
 
   covers-behind : (i : ℕ) (u : Bound T) (es : List (Edge T)) → isSome (uncovered-from row i (Some u) es) ≡ not (go-on row u es)
   covers-behind i u [] = elim (cases-bool (unbounded u)) [ inl q ↦ rw q | inr q ↦ rw q ]

@@ -47,13 +47,15 @@ ge-lt Greater = refl
 -- where v is below x, and x not above y, v is below y
 pub less-le : (v x y : Row) → by-row v x ≡ Less → isGt (by-row x y) ≡ false → by-row v y ≡ Less
 less-le v x y p q = elim (cases-order (by-row x y)) [
-    inl e ↦ row-through v x y p e
-  | inr c ↦ elim c [ inl e ↦ ap (by-row v) (sym (row-same x y e)) ∙ p | inr e ↦ absurd (true≢false (sym (ap isGt e) ∙ q)) ] ]
+  | inl e ↦ row-through v x y p e
+  | inr c ↦ elim c [ inl e ↦ ap (by-row v) (sym (row-same x y e)) ∙ p | inr e ↦ absurd (true≢false (sym (ap isGt e) ∙ q)) ]
+]
 
 pub le-less : (v x y : Row) → isGt (by-row v x) ≡ false → by-row x y ≡ Less → by-row v y ≡ Less
 le-less v x y p q = elim (cases-order (by-row v x)) [
-    inl e ↦ row-through v x y e q
-  | inr c ↦ elim c [ inl e ↦ row-alike v x y e ∙ q | inr e ↦ absurd (true≢false (sym (ap isGt e) ∙ p)) ] ]
+  | inl e ↦ row-through v x y e q
+  | inr c ↦ elim c [ inl e ↦ row-alike v x y e ∙ q | inr e ↦ absurd (true≢false (sym (ap isGt e) ∙ p)) ]
+]
 
 module _ {T : Type 0} (row : T → Row) (v : Row) where
   -- a range that is not empty: no value fails both of its bounds
@@ -104,8 +106,9 @@ module _ {T : Type 0} (row : T → Row) (v : Row) where
       let g′ = and-parts (meet row u (e .lower)) (go-on row (e .upper) es) g in
       let low : above row (e .lower) v ≡ true = met u (e .lower) (g′ .0) ∙ ap not b in
       elim (cases-bool (below row (e .upper) v)) [
-        inl h ↦ rw (low, h) (ap suc (none-behind (e .upper) es h (w′ .1) (g′ .1)))
-      | inr h ↦ rw (low, h) (one-behind (e .upper) es h (w′ .1) (g′ .1)) ]
+        | inl h ↦ rw (low, h) (ap suc (none-behind (e .upper) es h (w′ .1) (g′ .1)))
+        | inr h ↦ rw (low, h) (one-behind (e .upper) es h (w′ .1) (g′ .1))
+      ]
 
 pub parted : {T : Type 0} (row : T → Row) (es : List (Edge T)) → Parted row es
 parted row [] w g v = absurd (true≢false (sym g))
@@ -114,8 +117,9 @@ parted row (e ∷ es) w g v =
     let g′ = and-parts (unbounded (e .lower)) (go-on row (e .upper) es) g in
     let low : above row (e .lower) v ≡ true = free-above row v (e .lower) (g′ .0) in
     elim (cases-bool (below row (e .upper) v)) [
-      inl h ↦ rw (low, h) (ap suc (none-behind row v (e .upper) es h (w′ .1) (g′ .1)))
-    | inr h ↦ rw (low, h) (one-behind row v (e .upper) es h (w′ .1) (g′ .1)) ]
+      | inl h ↦ rw (low, h) (ap suc (none-behind row v (e .upper) es h (w′ .1) (g′ .1)))
+      | inr h ↦ rw (low, h) (one-behind row v (e .upper) es h (w′ .1) (g′ .1))
+    ]
 
 -- ---- an empty range contains nothing
 
@@ -164,15 +168,17 @@ greater-if Greater h = refl
 -- the same, where x may be y
 no-lower : (v x y : Row) → isGe (by-row x y) ≡ true → isGe (by-row v x) ≡ true → isLt (by-row v y) ≡ false
 no-lower v x y h g =
-    elim (at-least (by-row x y) h)
-    [ inl e ↦ ap (λ r. isLt (by-row v r)) (sym (row-same x y e)) ∙ ge-lt-none (by-row v x) g
-    | inr e ↦ ap isLt (far v x y g e) ]
+    elim (at-least (by-row x y) h) [
+      | inl e ↦ ap (λ r. isLt (by-row v r)) (sym (row-same x y e)) ∙ ge-lt-none (by-row v x) g
+      | inr e ↦ ap isLt (far v x y g e)
+    ]
 
 no-upper : (v x y : Row) → isGe (by-row x y) ≡ true → isGt (by-row v x) ≡ true → isLe (by-row v y) ≡ false
 no-upper v x y h g =
-    elim (at-least (by-row x y) h)
-    [ inl e ↦ ap (λ r. isLe (by-row v r)) (sym (row-same x y e)) ∙ gt-le-none (by-row v x) g
-    | inr e ↦ ap isLe (far v x y (gt-ge (by-row v x) g) e) ]
+    elim (at-least (by-row x y) h) [
+      | inl e ↦ ap (λ r. isLe (by-row v r)) (sym (row-same x y e)) ∙ gt-le-none (by-row v x) g
+      | inr e ↦ ap isLe (far v x y (gt-ge (by-row v x) g) e)
+    ]
 
 between-none : {T : Type 0} (row : T → Row) (l u : Bound T) → empty row l u ≡ true → (v : Row) → (above row l v && below row u v) ≡ false
 between-none row Unbounded u h v = absurd (true≢false (sym h))

@@ -41,5 +41,9 @@ pub fn uncovered_edge<T: Order>(edges: &[Edge<T>]) -> Option<usize>
         }
         before = Some(&edge.upper);
     }
-    if is_closed(before) { None } else { Some(edges.len().saturating_sub(1)) }
+    if is_closed(before) {
+        None
+    } else {
+        Some(edges.len().saturating_sub(1))
+    }
 }

@@ -3,7 +3,9 @@ ghost use denote.Ref.{now};
 ghost use Rattle.values.specs.Rows.{Row, by-row};
 ghost use Rattle.values.specs.Releases.{release-row};
 use std::cmp::Ordering;
-use values::orders::{Order, ReleaseOrder, TextOrder};
+use values::orders::Order;
+use values::orders::ReleaseOrder;
+use values::orders::TextOrder;
 use values::releases::Release;
 use values::texts::Text;
 

@@ -47,12 +47,13 @@ found-more d p x xs k b r = record {
 first-found : {A : Type 0} (d : A) (p : A → Bool) (i : ℕ) (xs : List A) {j : ℕ} → first-from p i xs ≡ Some j → (k : ℕ) × ((j ≡ i + k) × Found d p xs k)
 first-found d p i [] e = absurd (some-none (sym e))
 first-found d p i (x ∷ xs) e =
-    elim (cond-some (p x) e)
-    [ inl q ↦ let z : i ≡ i + 0 = omega arith in (0, (q .1 ∙ z, record { within = omega arith; here = q .0; earlier = λ m lt. absurd (not-suc-le-zero lt) }))
-    | inr q ↦
-      let r = first-found d p (i + 1) xs (q .1) in
-      let z : i + 1 + r .0 ≡ i + suc (r .0) = omega arith in
-      (suc (r .0), (r .1 .0 ∙ z, found-more d p x xs (r .0) (q .0) (r .1 .1))) ]
+    elim (cond-some (p x) e) [
+      | inl q ↦ let z : i ≡ i + 0 = omega arith in (0, (q .1 ∙ z, record { within = omega arith; here = q .0; earlier = λ m lt. absurd (not-suc-le-zero lt) }))
+      | inr q ↦
+          let r = first-found d p (i + 1) xs (q .1) in
+          let z : i + 1 + r .0 ≡ i + suc (r .0) = omega arith in
+          (suc (r .0), (r .1 .0 ∙ z, found-more d p x xs (r .0) (q .0) (r .1 .1)))
+    ]
 
 pub first-some : {A : Type 0} (d : A) (p : A → Bool) (xs : List A) {j : ℕ} → first-from p 0 xs ≡ Some j → Found d p xs j
 first-some d p xs {j} e =

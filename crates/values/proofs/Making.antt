@@ -67,9 +67,10 @@ right-count ns e =
 
 pub count-wrong : (ns : List ℕ) → (length ns ≡ 0) ⊎ (most-numbers < length ns) → wrong-count ns ≡ true
 count-wrong ns h =
-    elim h
-    [ inl e ↦ or-left (eqb (length ns) 0) (ltb most-numbers (length ns)) (eq-eqb (length ns) 0 e)
-    | inr l ↦ or-right (eqb (length ns) 0) (ltb most-numbers (length ns)) (lt-ltb most-numbers (length ns) l) ]
+    elim h [
+      | inl e ↦ or-left (eqb (length ns) 0) (ltb most-numbers (length ns)) (eq-eqb (length ns) 0 e)
+      | inr l ↦ or-right (eqb (length ns) 0) (ltb most-numbers (length ns)) (lt-ltb most-numbers (length ns) l)
+    ]
 
 pub count-right : (ns : List ℕ) → 1 ≤ length ns → length ns ≤ most-numbers → wrong-count ns ≡ false
 count-right ns some few = elim (cases-bool (wrong-count ns)) [ inl t ↦ absurd (no-count (or-cases (eqb (length ns) 0) (ltb most-numbers (length ns)) t)) | inr f ↦ f ]
@@ -86,9 +87,10 @@ answered ns o e f = rw (e, f)
 
 pub makes-release : (ns : List ℕ) → Makes-release ns (made-release ns)
 makes-release ns =
-    elim (cases-bool (wrong-count ns))
-    [ inl t ↦ subst (Makes-release ns) (refused-count ns t) (count (either (or-cases (eqb (length ns) 0) (ltb most-numbers (length ns)) t)))
-    | inr f ↦ subst (Makes-release ns) (answered ns (first-place (ltb largest) ns) f refl) (rest (right-count ns f) (first-place (ltb largest) ns) refl) ]
+    elim (cases-bool (wrong-count ns)) [
+      | inl t ↦ subst (Makes-release ns) (refused-count ns t) (count (either (or-cases (eqb (length ns) 0) (ltb most-numbers (length ns)) t)))
+      | inr f ↦ subst (Makes-release ns) (answered ns (first-place (ltb largest) ns) f refl) (rest (right-count ns f) (first-place (ltb largest) ns) refl)
+    ]
   where
     either : (eqb (length ns) 0 ≡ true) ⊎ (ltb most-numbers (length ns) ≡ true) → (length ns ≡ 0) ⊎ (most-numbers < length ns)
     either (inl e) = inl (eqb-true (length ns) 0 e)
@@ -110,6 +112,7 @@ bytes-stored bs few =
 
 pub makes-text : (bs : List ℕ) → Makes-text bs (made-text bs)
 makes-text bs =
-    elim (cases-lt most-bytes (length bs))
-    [ inl l ↦ let e : ltb most-bytes (length bs) ≡ true = lt-ltb most-bytes (length bs) l in rw e (refl, l)
-    | inr g ↦ let e : ltb most-bytes (length bs) ≡ false = le-ltb most-bytes (length bs) g in rw e (bytes-stored bs g) ]
+    elim (cases-lt most-bytes (length bs)) [
+      | inl l ↦ let e : ltb most-bytes (length bs) ≡ true = lt-ltb most-bytes (length bs) l in rw e (refl, l)
+      | inr g ↦ let e : ltb most-bytes (length bs) ≡ false = le-ltb most-bytes (length bs) g in rw e (bytes-stored bs g)
+    ]

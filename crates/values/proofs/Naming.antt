@@ -25,33 +25,38 @@ pub record Rest (barred : Bool) (bs : List ℕ) : Type 0 where
 
 letter-byte : (b : ℕ) → letter-or-digit b ≡ true → Name-byte b
 letter-byte b e =
-    elim (or-cases (leb 97 b && leb b 122) (leb 48 b && leb b 57) e)
-    [ inl h ↦ let p = and-parts (leb 97 b) (leb b 122) h in inl (leb-true 97 b (p .0), leb-true b 122 (p .1))
-    | inr h ↦ let p = and-parts (leb 48 b) (leb b 57) h in inr (inl (leb-true 48 b (p .0), leb-true b 57 (p .1))) ]
+    elim (or-cases (leb 97 b && leb b 122) (leb 48 b && leb b 57) e) [
+      | inl h ↦ let p = and-parts (leb 97 b) (leb b 122) h in inl (leb-true 97 b (p .0), leb-true b 122 (p .1))
+      | inr h ↦ let p = and-parts (leb 48 b) (leb b 57) h in inr (inl (leb-true 48 b (p .0), leb-true b 57 (p .1)))
+    ]
 
 byte-letter : (b : ℕ) → Name-byte b → (b ≡ hyphen → ⊥) → letter-or-digit b ≡ true
 byte-letter b h n =
-    elim h
-    [ inl p ↦ or-left (leb 97 b && leb b 122) (leb 48 b && leb b 57) (and-from (leb 97 b) (leb b 122) (le-leb 97 b (p .0)) (le-leb b 122 (p .1)))
-    | inr q ↦ elim q
-      [ inl p ↦ or-right (leb 97 b && leb b 122) (leb 48 b && leb b 57) (and-from (leb 48 b) (leb b 57) (le-leb 48 b (p .0)) (le-leb b 57 (p .1)))
-      | inr e ↦ absurd (n e) ] ]
+    elim h [
+      | inl p ↦ or-left (leb 97 b && leb b 122) (leb 48 b && leb b 57) (and-from (leb 97 b) (leb b 122) (le-leb 97 b (p .0)) (le-leb b 122 (p .1)))
+      | inr q ↦ elim q [
+        | inl p ↦ or-right (leb 97 b && leb b 122) (leb 48 b && leb b 57) (and-from (leb 48 b) (leb b 57) (le-leb 48 b (p .0)) (le-leb b 57 (p .1)))
+        | inr e ↦ absurd (n e)
+      ]
+    ]
 
 -- a byte that may come is a byte of a name, and no hyphen where it is barred
 came-byte : (barred : Bool) (b : ℕ) → may-come barred b ≡ true → Name-byte b
 came-byte barred b e =
-    elim (cases-eq b hyphen)
-    [ inl h ↦ inr (inr h)
-    | inr n ↦ letter-byte b (sym (ap (λ t. cond t (not barred) (letter-or-digit b)) (ne-eqb b hyphen n)) ∙ e) ]
+    elim (cases-eq b hyphen) [
+      | inl h ↦ inr (inr h)
+      | inr n ↦ letter-byte b (sym (ap (λ t. cond t (not barred) (letter-or-digit b)) (ne-eqb b hyphen n)) ∙ e)
+    ]
 
 came-barred : (barred : Bool) (b : ℕ) → may-come barred b ≡ true → barred ≡ true → b ≡ hyphen → ⊥
 came-barred barred b e t h = true≢false (sym t ∙ not-true barred (sym (ap (λ u. cond u (not barred) (letter-or-digit b)) (eq-eqb b hyphen h)) ∙ e))
 
 may : (barred : Bool) (b : ℕ) → Name-byte b → (barred ≡ true → b ≡ hyphen → ⊥) → may-come barred b ≡ true
 may barred b byte n =
-    elim (cases-eq b hyphen)
-    [ inl h ↦ ap (λ u. cond u (not barred) (letter-or-digit b)) (eq-eqb b hyphen h) ∙ elim (cases-bool barred) [ inl t ↦ absurd (n t h) | inr f ↦ ap not f ]
-    | inr h ↦ ap (λ u. cond u (not barred) (letter-or-digit b)) (ne-eqb b hyphen h) ∙ byte-letter b byte h ]
+    elim (cases-eq b hyphen) [
+      | inl h ↦ ap (λ u. cond u (not barred) (letter-or-digit b)) (eq-eqb b hyphen h) ∙ elim (cases-bool barred) [ inl t ↦ absurd (n t h) | inr f ↦ ap not f ]
+      | inr h ↦ ap (λ u. cond u (not barred) (letter-or-digit b)) (ne-eqb b hyphen h) ∙ byte-letter b byte h
+    ]
 
 from-rest : (barred : Bool) (bs : List ℕ) → normal-rest barred bs ≡ true → Rest barred bs
 from-rest barred [] e = record {
@@ -69,9 +74,9 @@ from-rest barred (b ∷ bs) e =
       begins = λ t lt h. came-barred barred b (p .0) t h;
       some = λ h. absurd (omega arith);
       ends = λ (k : ℕ). elim k as (λ (q : ℕ). q + 1 ≡ suc (length bs) → getD (b ∷ bs) q 0 ≡ hyphen → ⊥)
-        [ zero ↦ λ l h. true≢false (sym (eq-eqb b hyphen h) ∙ r .some (omega arith)) | suc q ↦ λ l h. r .ends q (omega arith) h ];
+          [ zero ↦ λ l h. true≢false (sym (eq-eqb b hyphen h) ∙ r .some (omega arith)) | suc q ↦ λ l h. r .ends q (omega arith) h ];
       apart = λ (k : ℕ). elim k as (λ (q : ℕ). q + 1 < suc (length bs) → getD (b ∷ bs) q 0 ≡ hyphen → getD (b ∷ bs) (q + 1) 0 ≡ hyphen → ⊥)
-        [ zero ↦ λ lt h i. r .begins (eq-eqb b hyphen h) (omega arith) i | suc q ↦ λ lt h i. r .apart q (omega arith) h (later q i) ];
+          [ zero ↦ λ lt h i. r .begins (eq-eqb b hyphen h) (omega arith) i | suc q ↦ λ lt h i. r .apart q (omega arith) h (later q i) ];
     }
   where
     later : (q : ℕ) → getD (b ∷ bs) (suc q + 1) 0 ≡ hyphen → getD bs (q + 1) 0 ≡ hyphen

@@ -108,7 +108,8 @@ impl MarkerValueString {
             MarkerValueString::PlatformMachine => "platform_machine",
             MarkerValueString::PlatformMachineDeprecated => "platform.machine",
             MarkerValueString::PlatformPythonImplementation => "platform_python_implementation",
-            MarkerValueString::PlatformPythonImplementationDeprecated => "platform.python_implementation",
+            MarkerValueString::PlatformPythonImplementationDeprecated =>
+                "platform.python_implementation",
             MarkerValueString::PythonImplementationDeprecated => "python_implementation",
             MarkerValueString::PlatformRelease => "platform_release",
             MarkerValueString::PlatformSystem => "platform_system",

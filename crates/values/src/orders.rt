@@ -5,7 +5,8 @@ ghost use Rattle.std.specs.Orderings.{reversed, Ranked};
 ghost use Rattle.values.specs.Rows.{Row, by-row, Earlier};
 ghost use Rattle.values.specs.Releases.{release-row, Before, Same};
 ghost use Rattle.values.specs.Texts.{text-bytes};
-use crate::releases::{Release, MOST_NUMBERS};
+use crate::releases::MOST_NUMBERS;
+use crate::releases::Release;
 use crate::texts::Text;
 use std::cmp::Ordering;
 
@@ -17,9 +18,13 @@ pub trait Order {
     ghost orders: { Self → Self → Ordering };
 
     law itself: { (x : Self) → orders x x ≡ Equal };
+
     law turns: { (x y : Self) → orders y x ≡ reversed (orders x y) };
+
     law through: { (x y z : Self) → orders x y ≡ Less → orders y z ≡ Less → orders x z ≡ Less };
+
     law alike: { (x y z : Self) → orders x y ≡ Equal → orders x z ≡ orders y z };
+
     law rows: { (x y : Self) → orders x y ≡ by-row (row x) (row y) };
 
     fn compare(&self, other: &Self) -> Ordering

@@ -33,7 +33,10 @@ impl Release {
             }
             stored[index] = *number;
         }
-        Ok(Release { count: numbers.len() as u8, numbers: stored })
+        Ok(Release {
+            count: numbers.len() as u8,
+            numbers: stored,
+        })
     }
 
     // How many numbers are written.

@@ -29,7 +29,10 @@ impl Text {
         for (index, byte) in bytes.iter().enumerate() {
             stored[index] = *byte;
         }
-        Ok(Text { length: bytes.len() as u8, bytes: stored })
+        Ok(Text {
+            length: bytes.len() as u8,
+            bytes: stored,
+        })
     }
 
     pub fn as_bytes(&self) -> &[u8]

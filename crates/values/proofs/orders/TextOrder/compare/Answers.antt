@@ -11,5 +11,5 @@ returns c =
     let xs : Row = text-bytes (c .args .self .now) in
     let ys : Row = text-bytes (c .args .other .now) in
     let value : c .cmp .result ≡ by-row xs ys =
-      row-says (c .as-bytes .result .now) (c .as-bytes-2 .result .now) (c .cmp .result) (c .cmp .ensures) ∙ ap (λ zs. by-row zs (c .as-bytes-2 .result .now)) (c .as-bytes .ensures) ∙ ap (by-row xs) (c .as-bytes-2 .ensures) in
+    row-says (c .as-bytes .result .now) (c .as-bytes-2 .result .now) (c .cmp .result) (c .cmp .ensures) ∙ ap (λ zs. by-row zs (c .as-bytes-2 .result .now)) (c .as-bytes .ensures) ∙ ap (by-row xs) (c .as-bytes-2 .ensures) in
     record { value = value; words = subst (λ (o : Ordering). Ranked o (Earlier xs ys) (xs ≡ ys) (Earlier ys xs)) (sym value) (by-words xs ys) }

@@ -1,0 +1,5 @@
+pub mod Turning
+pub mod Checks
+pub mod Judge
+pub mod Lawful
+pub mod Shows
