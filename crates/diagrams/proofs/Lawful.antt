@@ -174,7 +174,7 @@ judge-branches B i h l s lo b none =
 
 -- ---- the rules of a node, by its kind
 
-nth-some : {K : Type 0} (ks : List K) (n : ℕ) → isSome (nth ks n) ≡ ltb n (length ks)
+pub nth-some : {K : Type 0} (ks : List K) (n : ℕ) → isSome (nth ks n) ≡ ltb n (length ks)
 nth-some [] n = sym (le-ltb n 0 (omega arith))
 nth-some (k ∷ ks) zero = sym (lt-ltb 0 (length (k ∷ ks)) (omega arith))
 nth-some (k ∷ ks) (suc n) = nth-some ks n ∙ shifted n (length ks)
@@ -197,10 +197,10 @@ module _ (t : Table) (i : ℕ) (n : Node) where
   says : (cs : List ℕ) → n .kind ≤ 5 → children t n ≡ cs → Says-children B i cs
   says cs low e = subst (λ (ds : List ℕ). Says-children B i ds) e (says-all low)
 
-  release-ids : n .kind ≡ 0 → children t n ≡ child-ids (own (t .releases) n)
+  pub release-ids : n .kind ≡ 0 → children t n ≡ child-ids (own (t .releases) n)
   release-ids e = let a : leb (n .kind) 0 ≡ true = grind (arith, tells) in rw a
 
-  text-ids : n .kind ≡ 1 → children t n ≡ child-ids (own (t .texts) n)
+  pub text-ids : n .kind ≡ 1 → children t n ≡ child-ids (own (t .texts) n)
   text-ids e =
       let a : leb (n .kind) 0 ≡ false = grind (arith, tells) in
       let b : leb (n .kind) 1 ≡ true = grind (arith, tells) in

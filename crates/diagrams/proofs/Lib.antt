@@ -3,3 +3,4 @@ pub mod Checks
 pub mod Judge
 pub mod Lawful
 pub mod Shows
+pub mod Viewing

@@ -25,9 +25,6 @@ module _ (t : Table) (id : ℕ) where
   unfolding view
   shows-false e = sym (ap (view t) e)
 
-  pub knows-low : id ≤ 1 → true ≡ known t id
-  knows-low e = grind (arith, tells)
-
   pub unknown-id : 2 ≤ id → length (t .nodes) ≤ id / 2 - 1 → Err UnknownId ≡ view t id
   unfolding view
   unknown-id big h =
@@ -35,9 +32,6 @@ module _ (t : Table) (id : ℕ) where
       let b : eqb id 1 ≡ false = grind (arith, tells) in
       let c : known t id ≡ false = grind (arith, tells) in
       rw (a, b, c)
-
-  pub not-known : 2 ≤ id → length (t .nodes) ≤ id / 2 - 1 → false ≡ known t id
-  not-known big h = grind (arith, tells)
 
   pub shows-node : 2 ≤ id → id / 2 - 1 < length (t .nodes) → (v : View) → Some v ≡ node-view t id (getD (t .nodes) (id / 2 - 1) no-node) → Ok v ≡ view t id
   unfolding view
@@ -49,6 +43,3 @@ module _ (t : Table) (id : ℕ) where
       ∙ ap (λ q. cond q (Some never) (cond (known t id) (node-view t id (getD (t .nodes) (id / 2 - 1) no-node)) None)) b
       ∙ ap (λ q. cond q (node-view t id (getD (t .nodes) (id / 2 - 1) no-node)) None) c ∙ sym e in
       sym (ap (λ q. okOr q UnknownId) s)
-
-  pub is-known : 2 ≤ id → id / 2 - 1 < length (t .nodes) → true ≡ known t id
-  is-known big h = grind (arith, tells)

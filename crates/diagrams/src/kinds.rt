@@ -7,7 +7,7 @@ ghost use Rattle.std.specs.declared.option.Option.the-variants.{Some};
 ghost use Rattle.values.specs.Keys.{version-key, string-key};
 ghost use Rattle.diagrams.specs.Held.{table-of};
 ghost use Rattle.diagrams.specs.Rules.{Sound-node};
-ghost use Rattle.diagrams.specs.Views.{shown, shown-kind, view, node-view, known};
+ghost use Rattle.diagrams.specs.Views.{shown, shown-kind, view, node-view, branch-view, Shows};
 use crate::diagram::Diagram;
 use crate::ids::NodeId;
 use crate::rows::Node;
@@ -48,7 +48,7 @@ impl<'a> Diagram<'a> {
     // What an id stands for, or refusal 14.
     pub fn kind(&self, id: NodeId) -> Result<MarkerTreeKind<'a>, Fault>
         ensures answer { λ r. ⌜ shown r ≡ view (table-of (now (self .entry))) (id .0) ⌝ }
-        ensures law { λ r. ⌜ isOk r ≡ known (table-of (now (self .entry))) (id .0) ⌝ }
+        ensures law { λ _. ⌜ Shows (table-of (now (self .entry))) (id .0) ⌝ }
     {
         if id.0 == 0 {
             return Ok(MarkerTreeKind::True);
@@ -69,9 +69,6 @@ impl<'a> Diagram<'a> {
         requires { ⌜ ((i : ℕ) × Sound-node (table-of (now self)) i (now node)) ⌝ }
         ensures { λ r. ⌜ Some (shown-kind r) ≡ node-view (table-of (now (self .entry))) (id .0) (now (node .entry)) ⌝ }
     {
-        let high = NodeId(node.high).under(id);
-        let low = NodeId(node.low).under(id);
-        let value = &node.literal;
         match node.kind {
             0 => MarkerTreeKind::Version(EdgesMarkerTree {
                 id,
@@ -83,28 +80,43 @@ impl<'a> Diagram<'a> {
                 key: string_key(node.key),
                 edges: own_edges(self.texts, node),
             }),
-            2 => MarkerTreeKind::In(InMarkerTree {
-                key: string_key(node.key),
-                value,
-                high,
-                low,
-            }),
-            3 => MarkerTreeKind::Contains(ContainsMarkerTree {
-                key: string_key(node.key),
-                value,
-                high,
-                low,
-            }),
-            4 => MarkerTreeKind::Extra(ExtraMarkerTree {
-                name: MarkerValueExtra::Extra(value),
-                high,
-                low,
-            }),
-            _ => MarkerTreeKind::Extra(ExtraMarkerTree {
-                name: MarkerValueExtra::Arbitrary(value),
-                high,
-                low,
-            }),
+            _ => branch_kind(id, node),
         }
+    }
+}
+
+// What a node with a high and a low child shows under an id.
+fn branch_kind<'a>(id: NodeId, node: &'a Node) -> MarkerTreeKind<'a>
+    requires kind { ⌜ 2 ≤ now node .kind ⌝ }
+    requires low { ⌜ now node .kind ≤ 5 ⌝ }
+    requires key { ⌜ (now node .kind ≤ 3 → now node .key ≤ 13) ⌝ }
+    ensures { λ r. ⌜ Some (shown-kind r) ≡ branch-view (id .0) (now (node .entry)) ⌝ }
+{
+    let high = NodeId(node.high).under(id);
+    let low = NodeId(node.low).under(id);
+    let value = &node.literal;
+    match node.kind {
+        2 => MarkerTreeKind::In(InMarkerTree {
+            key: string_key(node.key),
+            value,
+            high,
+            low,
+        }),
+        3 => MarkerTreeKind::Contains(ContainsMarkerTree {
+            key: string_key(node.key),
+            value,
+            high,
+            low,
+        }),
+        4 => MarkerTreeKind::Extra(ExtraMarkerTree {
+            name: MarkerValueExtra::Extra(value),
+            high,
+            low,
+        }),
+        _ => MarkerTreeKind::Extra(ExtraMarkerTree {
+            name: MarkerValueExtra::Arbitrary(value),
+            high,
+            low,
+        }),
     }
 }

@@ -1,0 +1,4 @@
+pub mod Substrings
+pub mod Hosts
+pub mod Tallies
+pub mod Records

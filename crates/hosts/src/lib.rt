@@ -1,0 +1,8 @@
+// Hosts, reporters of warnings, and the evaluations of a diagram.
+pub mod hosts;
+pub mod lending;
+pub mod overlays;
+pub mod records;
+pub mod reporters;
+pub mod substrings;
+pub mod warnings;
