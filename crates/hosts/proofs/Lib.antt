@@ -1,3 +1,6 @@
 pub mod Finding
-pub mod Keeping
+pub mod Noting
 pub mod Recording
+pub mod Walking
+pub mod Negating
+pub mod Saying

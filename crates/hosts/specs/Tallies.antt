@@ -49,6 +49,13 @@ pub record Tally : Type 0 where
   pub kept : List Report
   pub free : List Report
 
+abbrev pub tally-of : Table ℕ → List Report → List Report → Tally
+tally-of c k f = record { counts = c; kept = k; free = f }
+
+-- the numbers in the order of the kinds
+abbrev pub listed : Table ℕ → List ℕ
+listed t = t .«deprecated_marker_name» ∷ t .«extra_invalid_comparison» ∷ t .«lexicographic_comparison» ∷ t .«marker_marker_comparison» ∷ t .«pep440_error» ∷ t .«string_string_comparison» ∷ []
+
 abbrev pub no-counts : Table ℕ
 no-counts = six 0 0 0 0 0 0
 

@@ -1,5 +1,7 @@
 // Hosts, reporters of warnings, and the evaluations of a diagram.
+pub mod evaluation;
 pub mod hosts;
+pub mod keeping;
 pub mod lending;
 pub mod overlays;
 pub mod records;

@@ -1,5 +1,5 @@
 use Rattle.hosts.specs.Tallies.{numbers}
-use Rattle.hosts.proofs.Keeping.{kept-more, kept-full}
+use Rattle.hosts.proofs.Noting.{kept-more, kept-full}
 use Rattle.hosts.proofs.reporters.KeepingReporterReports.report.Needs as need
 
 pub returns-then-self : need.returns-then-self
