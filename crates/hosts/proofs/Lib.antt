@@ -4,3 +4,5 @@ pub mod Recording
 pub mod Walking
 pub mod Negating
 pub mod Saying
+pub mod Asking
+pub mod Possibly

@@ -144,7 +144,7 @@ module _ (m : Meaning) (t : Table) (a : isSome (first-refusal t) ≡ false) wher
   only {id} (extra-low l high low e q s) = sym (answer-more m t a id (extra l high low) low e (ap (λ b. goes (cond b high low)) q)) ∙ only s
   only {id} (text-low l high low e s) = sym (answer-more m t a id (extra-text l high low) low e refl) ∙ only s
 
-lacks-view : (t : Table) (id : ℕ) → isOk (view t id) ≡ false → Err UnknownId ≡ view t id
+pub lacks-view : (t : Table) (id : ℕ) → isOk (view t id) ≡ false → Err UnknownId ≡ view t id
 unfolding view
 lacks-view t id e = by (seen-at t id) e
   where

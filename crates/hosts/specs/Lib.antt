@@ -6,3 +6,4 @@ pub mod Reporters
 pub mod Walks
 pub mod Steps
 pub mod Evaluation
+pub mod Extras

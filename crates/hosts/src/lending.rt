@@ -10,7 +10,7 @@ use crate::warnings::Table;
 
 impl<T> Table<T> {
     // Lends the record of a kind.
-    pub fn record(&mut self, kind: MarkerWarningKind) -> &mut T
+    pub(crate) fn record(&mut self, kind: MarkerWarningKind) -> &mut T
         ensures lends { λ r. sem 𝓤 H A (follows (the-row T·row) T·row (name (self .entry)) (name r) (with-record (now (self .entry)) kind)) }
         ensures value { λ r. ⌜ now r ≡ record-of (now (self .entry)) kind ⌝ }
     {
@@ -27,7 +27,7 @@ impl<T> Table<T> {
 
 impl Table<Count> {
     // Counts one more report of a kind, up to the largest count.
-    pub fn raise(&mut self, kind: MarkerWarningKind)
+    pub(crate) fn raise(&mut self, kind: MarkerWarningKind)
         ensures { λ _. ⌜ numbers (now (self .exit)) ≡ more (numbers (now (self .entry))) kind ⌝ }
     {
         let count = self.record(kind);

@@ -1,5 +1,6 @@
 // Hosts, reporters of warnings, and the evaluations of a diagram.
 pub mod evaluation;
+pub mod extras;
 pub mod hosts;
 pub mod keeping;
 pub mod lending;

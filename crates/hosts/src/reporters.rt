@@ -33,7 +33,7 @@ impl Table<Count> {
     }
 
     // The counts in the order of the kinds.
-    pub fn raised(&self) -> [u32; 6]
+    pub(crate) fn raised(&self) -> [u32; 6]
         ensures { λ r. ⌜ r ≡ listed (numbers (now (self .entry))) ⌝ }
     {
         [
