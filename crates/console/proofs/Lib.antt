@@ -1,0 +1,5 @@
+mod Numbers
+mod Cutting
+mod Readings
+mod Pairs
+mod Bounding
