@@ -57,7 +57,7 @@ pub pieces-some : (mark : ℕ) (bytes : List ℕ) → pieces mark bytes ≡ [] �
 pieces-some mark [] e = let z : _≡_ {A = ℕ} 0 1 = cc in omega arith
 pieces-some mark (b ∷ bs) e =
     elim (cases-bool (eqb b mark)) [
-      inl t ↦ not-nil (rw t at e)
+      | inl t ↦ not-nil (rw t at e)
       | inr f ↦ onto-some b (pieces mark bs) (rw f at e)
     ]
   where

@@ -68,7 +68,7 @@ module _ (digits xs rest : List ℕ) (s : So-far digits xs rest) where
     opened high low h l =
         let whole : rest ≡ getD rest 0 0 ∷ getD rest 1 0 ∷ drop 2 rest = drop-more rest 0 0 (omega arith) ∙ ap (λ r. getD rest 0 0 ∷ r) (drop-more rest 1 0 (omega arith)) in
         whole ∙ ap (λ d. d ∷ getD rest 1 0 ∷ drop 2 rest) (h .1 ∙ ap digitChar (sym (digits-div high (l .0))))
-          ∙ ap (λ d. digitChar ((high * 16 + low) / 16) ∷ d ∷ drop 2 rest) (l .1 ∙ ap digitChar (sym (digits-mod high (l .0))))
+        ∙ ap (λ d. digitChar ((high * 16 + low) / 16) ∷ d ∷ drop 2 rest) (l .1 ∙ ap digitChar (sym (digits-mod high (l .0))))
 
     pub one-more : (high low : ℕ) (ys : List ℕ) → Hex-digit (getD rest 0 0) high → Hex-digit (getD rest 1 0) low → ys ≡ xs ++ ((high * 16 + low) ∷ []) → So-far digits ys (take (length rest - 2) (drop 2 rest))
     one-more high low ys h l e = (rw (e, take-rest rest 2, hex-append xs ((high * 16 + low) ∷ []), append-assoc) (s .0 ∙ ap (λ r. hex-digits xs ++ r) (opened high low h l)), rw e (all-push Byte xs (high * 16 + low) (s .1) (omega arith)))

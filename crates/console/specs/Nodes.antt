@@ -11,5 +11,5 @@ use Rattle.console.specs.declared.command.NodeWords.{NodeWords}
 abbrev pub made-node : NodeWords → Result Node Fault
 made-node n =
     then-made (made-text (vec-items (n .literal .bytes))) (
-      λ literal. Ok (record { kind = n .kind; key = n .key; literal = literal; first = n .first; count = n .count; high = n .high; low = n .low })
+    λ literal. Ok (record { kind = n .kind; key = n .key; literal = literal; first = n .first; count = n .count; high = n .high; low = n .low })
     )

@@ -2,7 +2,14 @@
 ghost use mathlib.Core.Path.{_≡_};
 ghost use Rattle.console.specs.Making.{made-edge};
 ghost use Rattle.console.specs.Nodes.{made-node};
-use crate::script::{BoundWritten, ReleaseWord, ReleaseWordWritten, TextWord, TextWordWritten, Unread, Words, Written};
+use crate::script::BoundWritten;
+use crate::script::ReleaseWord;
+use crate::script::ReleaseWordWritten;
+use crate::script::TextWord;
+use crate::script::TextWordWritten;
+use crate::script::Unread;
+use crate::script::Words;
+use crate::script::Written;
 use diagrams::ids::NodeId;
 use diagrams::rows::Node;
 use ranges::edges::Edge;
@@ -85,12 +92,20 @@ impl NodeWords {
 }
 
 fn read_edge<V: Written>(words: &mut Words) -> Result<Edge<V>, Unread> {
-    Ok(Edge { lower: words.value()?, upper: words.value()?, child: words.id()? })
+    Ok(Edge {
+        lower: words.value()?,
+        upper: words.value()?,
+        child: words.id()?,
+    })
 }
 
 // The edge, with its lower value made first.
 pub(crate) fn make_edge<V: Written>(edge: &Edge<V>) -> Result<Edge<V::Value>, Fault>
     ensures { λ r. ⌜ r ≡ made-edge (V·Written .made) (now (edge .entry)) ⌝ }
 {
-    Ok(Edge { lower: edge.lower.make()?, upper: edge.upper.make()?, child: edge.child })
+    Ok(Edge {
+        lower: edge.lower.make()?,
+        upper: edge.upper.make()?,
+        child: edge.child,
+    })
 }

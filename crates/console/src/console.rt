@@ -8,18 +8,36 @@ ghost use Rattle.std.specs.Results.{Cases as ByOk};
 ghost use Rattle.console.specs.Rows.{Appends, Failing};
 ghost use Rattle.console.specs.Left.{left};
 ghost use Rattle.console.specs.declared.console.Stop.the-variants.{Refused as Is-refused};
-use crate::command::{make_edge, Command, NodeWords};
-use crate::script::{is_silent, ReleaseWord, ReleaseWordWritten, Script, TextWord, TextWordWritten, Unread, Written};
-use crate::show::{FaultShow, MarkerTreeKindShow, ReleaseShow, Shown, ShownDisplay, TextShow};
+use crate::command::Command;
+use crate::command::NodeWords;
+use crate::command::make_edge;
+use crate::script::ReleaseWord;
+use crate::script::ReleaseWordWritten;
+use crate::script::Script;
+use crate::script::TextWord;
+use crate::script::TextWordWritten;
+use crate::script::Unread;
+use crate::script::Written;
+use crate::script::is_silent;
+use crate::show::FaultShow;
+use crate::show::MarkerTreeKindShow;
+use crate::show::ReleaseShow;
+use crate::show::Shown;
+use crate::show::ShownDisplay;
+use crate::show::TextShow;
 use diagrams::diagram::Diagram;
 use diagrams::ids::NodeId;
-use diagrams::rows::{Node, ReleaseEdge, TextEdge};
+use diagrams::rows::Node;
+use diagrams::rows::ReleaseEdge;
+use diagrams::rows::TextEdge;
 use ranges::edges::Edge;
 use std::alloc::AllocError;
 use std::alloc::Global;
 use std::alloc::Refused;
 use std::io;
-use std::io::{BufWriter, Stdout, Write};
+use std::io::BufWriter;
+use std::io::Stdout;
+use std::io::Write;
 use values::faults::Fault;
 
 // Why a command has no answer of its own.
@@ -64,7 +82,11 @@ struct Table {
 
 impl Table {
     fn new(heap: Global) -> Table {
-        Table { nodes: Vec::new(heap), releases: Vec::new(heap), texts: Vec::new(heap) }
+        Table {
+            nodes: Vec::new(heap),
+            releases: Vec::new(heap),
+            texts: Vec::new(heap),
+        }
     }
 
     fn clear(&mut self)
@@ -99,7 +121,11 @@ pub(crate) struct Console {
 
 impl Console {
     pub(crate) fn new(heap: Global, out: Stdout) -> Console {
-        Console { heap, out: BufWriter::new(out), table: Table::new(heap) }
+        Console {
+            heap,
+            out: BufWriter::new(out),
+            table: Table::new(heap),
+        }
     }
 
     // Answers the commands of a script.
@@ -129,7 +155,11 @@ impl Console {
             }
             match Command::read(self.heap, line) {
                 Ok(command) => return Ok(Some(command)),
-                Err(Unread::Malformed) => writeln!(self.out, "unreadable {}", script.line_number())?,
+                Err(Unread::Malformed) => writeln!(
+                    self.out,
+                    "unreadable {}",
+                    script.line_number()
+                )?,
                 Err(Unread::NoMemory) => return Err(AllocError.into()),
             }
         }

@@ -44,7 +44,10 @@ impl<'a> Script<'a> {
         ensures whole { λ r. ⌜ now (r .rest) ≡ now (bytes .entry) ⌝ }
         ensures none { λ r. ⌜ r .lines ≡ 0 ⌝ }
     {
-        Script { rest: bytes, lines: 0 }
+        Script {
+            rest: bytes,
+            lines: 0,
+        }
     }
 
     // The number of the line that was read last, from 1.
@@ -142,7 +145,10 @@ pub(crate) fn split(bytes: &[u8], mark: u8) -> Pieces<'_>
     ensures whole { λ r. ⌜ mapped now (r .rest) ≡ Option.Some (now (bytes .entry)) ⌝ }
     ensures mark { λ r. ⌜ r .mark ≡ mark ⌝ }
 {
-    Pieces { rest: Some(bytes), mark }
+    Pieces {
+        rest: Some(bytes),
+        mark,
+    }
 }
 
 impl<'a> Iterator for Pieces<'a> as PiecesIterator {
@@ -175,7 +181,10 @@ impl<'a> Words<'a> {
     pub(crate) fn new(heap: Global, line: &'a [u8]) -> Words<'a>
         ensures { λ r. ⌜ words-left r ≡ pieces 32 (now (line .entry)) ⌝ }
     {
-        Words { heap, pieces: split(line, b' ') }
+        Words {
+            heap,
+            pieces: split(line, b' '),
+        }
     }
 
     // The next word.
@@ -267,7 +276,11 @@ fn hexadecimal(heap: Global, digits: &[u8]) -> Result<Vec<u8>, Unread>
         bytes.push(high * 16 + low)?;
         rest = tail;
     }
-    if rest.is_empty() { Ok(bytes) } else { Err(Unread::Malformed) }
+    if rest.is_empty() {
+        Ok(bytes)
+    } else {
+        Err(Unread::Malformed)
+    }
 }
 
 // A value as a word writes it: nothing is made before the whole line is read.
@@ -336,7 +349,9 @@ pub impl Written for TextWord as TextWordWritten {
         let [b'x', digits @ ..] = word else {
             return Err(Unread::Malformed);
         };
-        Ok(TextWord { bytes: hexadecimal(heap, digits)? })
+        Ok(TextWord {
+            bytes: hexadecimal(heap, digits)?,
+        })
     }
 
     fn make(&self) -> Result<Text, Fault> {

@@ -1,10 +1,16 @@
 // How the console prints values of the unit.
-use diagrams::views::{ContainsMarkerTree, EdgesMarkerTree, ExtraMarkerTree, InMarkerTree, MarkerTreeKind, MarkerValueExtra};
+use diagrams::views::ContainsMarkerTree;
+use diagrams::views::EdgesMarkerTree;
+use diagrams::views::ExtraMarkerTree;
+use diagrams::views::InMarkerTree;
+use diagrams::views::MarkerTreeKind;
+use diagrams::views::MarkerValueExtra;
 use std::fmt;
 use std::fmt::Display;
 use values::bounds::Bound;
 use values::faults::Fault;
-use values::keys::{MarkerValueString, MarkerValueVersion};
+use values::keys::MarkerValueString;
+use values::keys::MarkerValueVersion;
 use values::releases::Release;
 use values::texts::Text;
 

@@ -25,7 +25,7 @@ loop-byte-again c =
     let digit = c .in-Continue-digit .ensures tt .checked in
     let sum = c .in-Continue-number .ensures tt in
     let read =
-        one-more ds ds (c .loop-byte .byte-index) (c .loop-byte .number) (c .loop-byte .inv .0) (c .loop-byte-test .taken) (c .in-Continue-number .number) (digit .0) (omega (arith, digit .1, c .in-Continue-checked-mul .ensures tt .1, sum .1)) in
+    one-more ds ds (c .loop-byte .byte-index) (c .loop-byte .number) (c .loop-byte .inv .0) (c .loop-byte-test .taken) (c .in-Continue-number .number) (digit .0) (omega (arith, digit .1, c .in-Continue-checked-mul .ensures tt .1, sum .1)) in
     (read, omega (arith, sum .0, sum .1))
 
 pub returns : need.returns

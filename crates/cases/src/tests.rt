@@ -1,0 +1,14 @@
+mod admission;
+mod children;
+mod containment;
+mod cover;
+mod empty_ranges;
+mod given;
+mod keys;
+mod limits;
+mod names;
+mod precedence;
+mod releases;
+mod rewritten;
+mod texts;
+mod views;
