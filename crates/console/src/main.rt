@@ -1,4 +1,5 @@
 // Reads a script of commands on standard input, and prints what the unit answers to each.
+#![tactic(auto)]
 mod command;
 mod console;
 mod host_command;

@@ -1,4 +1,5 @@
 // Hosts, and reporters of warnings.
+#![tactic(auto)]
 pub mod hosts;
 pub mod keeping;
 pub mod lending;

@@ -5,14 +5,14 @@ use Rattle.std.specs.declared.cmp.Ordering.{Ordering}
 use Rattle.std.proofs.Common.{sym, ap, subst, ◌∙◌, true≢false, inl, inr, arith}
 use Rattle.std.proofs.lemmas.List.{at_drop_more}
 use Rattle.std.specs.Cmp.{nat_cmp_total, ranks}
-use Rattle.std.specs.Cmp.Lexicographic.{slice_cmp, lex-says, Lex, lists_total}
+use Rattle.std.specs.Cmp.Lexicographic.{slice_cmp, lists_total}
 use Rattle.std.specs.Ordering.{MatchOrdering, ordering_reverse, ordering_then, is_lt, is_gt, nat_cmp}
 use Rattle.values.specs.Rows.{Row, by_row}
 use Rattle.values.specs.Rows.{Earlier}
 
-pub row_says : (xs ys : Row) (r : Ordering) → Lex (λ a b k. MatchOrdering k (a < b) (a ≡ b) (b < a)) xs ys r → r ≡ by_row xs ys
+pub row_says : (xs ys : Row) (r : Ordering) → r ≡ slice_cmp nat_cmp xs ys → r ≡ by_row xs ys
 unfolding by_row
-row_says xs ys r h = lex-says nat_cmp_total xs ys r h
+row_says xs ys r h = h
 
 pub row_turns : (xs ys : Row) → by_row ys xs ≡ ordering_reverse (by_row xs ys)
 unfolding by_row

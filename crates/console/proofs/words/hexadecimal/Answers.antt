@@ -27,8 +27,8 @@ loop-rest-preserved c =
     let two : 2 ≤ length rest = search rules in
     one_more c.args.digits.now (vec_items c.loop-rest.bytes) rest c.loop-rest.invariant two c.in-ok-high.high c.in-ok-low.low (vec_items c.push.new.self) c.in-ok-high.ensures c.in-ok-low.ensures c.in-ok-push.ensures.items
 
-pub returns-then-is-empty : goal.returns-then-is-empty
-returns-then-is-empty c = all_read c.args.digits.now (vec_items c.loop-rest.bytes) c.loop-rest.rest.now c.loop-rest.invariant (search rules)
+pub returns-then-is_empty : goal.returns-then-is_empty
+returns-then-is_empty c = all_read c.args.digits.now (vec_items c.loop-rest.bytes) c.loop-rest.rest.now c.loop-rest.invariant (search rules)
 
-pub returns-else-is-empty : goal.returns-else-is-empty
-returns-else-is-empty c v = one_left c.args.digits.now (vec_items c.loop-rest.bytes) c.loop-rest.rest.now c.loop-rest.invariant (search rules) (vec_items v)
+pub returns-else-is_empty : goal.returns-else-is_empty
+returns-else-is_empty c v = one_left c.args.digits.now (vec_items c.loop-rest.bytes) c.loop-rest.rest.now c.loop-rest.invariant (search rules) (vec_items v)

@@ -4,16 +4,16 @@ use Rattle.diagrams.specs.Admission.{too_large}
 use Rattle.diagrams.proofs.Checks.{child_turn, children_are}
 use Rattle.diagrams.proofs.admission.check_children.Goals as goal
 
-pub returns-then-is-too-large : goal.returns-then-is-too-large
-returns-then-is-too-large g c =
+pub returns-then-is_too_large : goal.returns-then-is_too_large
+returns-then-is_too_large g c =
     let n : ℕ = c.args.place in
     let es = c.args.edges.now in
     let i : ℕ = c.loop-child.child in
-    children_are n es (Some i) (child_turn n es i c.index-edges-child.result true c.loop-child-test.true c.index-edges-child.is c.if-is-too-large.ensures ∙ c.loop-child.invariant)
+    children_are n es (Some i) (child_turn n es i c.index-edges-child.result true c.loop-child-test.true c.index-edges-child.is c.if-is_too_large.ensures ∙ c.loop-child.invariant)
 
 pub loop-child-preserved : goal.loop-child-preserved
 loop-child-preserved g c =
-    child_turn c.args.place c.args.edges.now c.loop-child.child c.index-edges-child.result false c.loop-child-test.true c.index-edges-child.is c.if-is-too-large.ensures ∙ c.loop-child.invariant
+    child_turn c.args.place c.args.edges.now c.loop-child.child c.index-edges-child.result false c.loop-child-test.true c.index-edges-child.is c.if-is_too_large.ensures ∙ c.loop-child.invariant
 
 pub returns : goal.returns
 returns g c =

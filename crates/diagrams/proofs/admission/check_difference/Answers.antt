@@ -30,8 +30,8 @@ loop-edge-preserved g c =
     let first = c.first-item.result in
     sym (leads_turn first.child (take (length es - 1) (drop 1 es)) c.loop-edge.edge_index c.edge-item.result true c.loop-edge-test.true c.edge-item.is (eq-eqb c.edge-item.result.child first.child c.if-edge-first.false)) ∙ c.loop-edge.invariant
 
-pub returns-in-default : goal.returns-in-default
-returns-in-default g c =
+pub returns-in_default : goal.returns-in_default
+returns-in_default g c =
     let h : length c.args.edges.now ≡ 0 = search rules in
     none c.args.edges.now c.args.place h
 

@@ -4,24 +4,24 @@ use Rattle.diagrams.specs.Admission.{answer, name_refusal, branches_refusal, nod
 use Rattle.diagrams.proofs.Checks.{named, unknown, stops, goes_on}
 use Rattle.diagrams.proofs.admission.check_node.Goals as goal
 
-pub returns-in-err-check-name : goal.returns-in-err-check-name
-returns-in-err-check-name c =
+pub returns-in-err-check_name : goal.returns-in-err-check_name
+returns-in-err-check_name c =
     let n = c.args.node.now in
     let i : ℕ = c.args.place in
-    let p = err_from_is_err_and c.from-residual-in-err-check-name.result c.from-residual-in-err-check-name.ensures.1 in
+    let p = err_from_is_err_and c.from-residual-in-err-check_name.result c.from-residual-in-err-check_name.ensures.1 in
     rw (p.1, p.2)
-    (stops (name_refusal i n.literal) (branches_refusal i n.high n.low) _ c.in-err-check-name.ensures
+    (stops (name_refusal i n.literal) (branches_refusal i n.high n.low) _ c.in-err-check_name.ensures
     ∙ ap answer (sym (named c.args.releases.now c.args.texts.now i n c.in-4.is)))
 
-pub returns-in-ok-check-name : goal.returns-in-ok-check-name
-returns-in-ok-check-name c =
+pub returns-in-ok-check_name : goal.returns-in-ok-check_name
+returns-in-ok-check_name c =
     let n = c.args.node.now in
     let i : ℕ = c.args.place in
-    c.check-branches.ensures
-    ∙ ap answer (sym (named c.args.releases.now c.args.texts.now i n c.in-4.is ∙ goes_on (name_refusal i n.literal) (branches_refusal i n.high n.low) c.in-ok-check-name.ensures))
+    c.check_branches.ensures
+    ∙ ap answer (sym (named c.args.releases.now c.args.texts.now i n c.in-4.is ∙ goes_on (name_refusal i n.literal) (branches_refusal i n.high n.low) c.in-ok-check_name.ensures))
 
-pub returns-in-default : goal.returns-in-default
-returns-in-default c =
+pub returns-in_default : goal.returns-in_default
+returns-in_default c =
     let n = c.args.node.now in
     let h : 5 < n.kind = search rules in
     ap answer (sym (unknown c.args.releases.now c.args.texts.now c.args.place n h))

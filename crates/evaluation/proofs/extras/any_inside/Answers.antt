@@ -6,14 +6,14 @@ use Rattle.evaluation.proofs.Asking.{any_next, any_last}
 use Rattle.evaluation.proofs.extras.any_inside.Goals as goal
 
 -- what is read behind the end of a list of releases
-abbrev no-release : Release
-no-release = record { count = 0; numbers = [] }
+abbrev no_release : Release
+no_release = record { count = 0; numbers = [] }
 
 pub returns-then-contains : goal.returns-then-contains
-returns-then-contains c = sym (any_next (λ v. lies release_row c.args.edge.now (release_row v)) c.args.releases.now c.loop-release.release-index no-release true c.loop-release-test.true c.if-contains.ensures) ∙ c.loop-release.invariant
+returns-then-contains c = sym (any_next (λ v. lies release_row c.args.edge.now (release_row v)) c.args.releases.now c.loop-release.release-index no_release true c.loop-release-test.true c.if-contains.ensures) ∙ c.loop-release.invariant
 
 pub loop-release-preserved : goal.loop-release-preserved
-loop-release-preserved c = sym (any_next (λ v. lies release_row c.args.edge.now (release_row v)) c.args.releases.now c.loop-release.release-index no-release false c.loop-release-test.true c.if-contains.ensures) ∙ c.loop-release.invariant
+loop-release-preserved c = sym (any_next (λ v. lies release_row c.args.edge.now (release_row v)) c.args.releases.now c.loop-release.release-index no_release false c.loop-release-test.true c.if-contains.ensures) ∙ c.loop-release.invariant
 
 pub returns : goal.returns
 returns c = sym (any_last (λ v. lies release_row c.args.edge.now (release_row v)) c.args.releases.now c.loop-release.release-index c.loop-release-test.false) ∙ c.loop-release.invariant

@@ -18,13 +18,13 @@ returns-in-err-kind c =
     let p = err_from_is_err_and c.from-residual.result c.from-residual.ensures.1 in
     p.1 ∙ ap Err p.2 ∙ root_lacks c.args.names.now (option_map (λ x. x.now) c.args.releases) t c.args.diagram.now.admitted c.args.root.0 c.in-err-kind.field-0.0 c.in-err-kind.ensures.answer
 
-pub returns-in-err-check-names : goal.returns-in-err-check-names
-returns-in-err-check-names c =
+pub returns-in-err-check_names : goal.returns-in-err-check_names
+returns-in-err-check_names c =
     let t : Table = table_of c.args.diagram.now in
     let id : ℕ = c.args.root.0 in
-    let p = err_from_is_err_and c.from-residual-in-err-check-names.result c.from-residual-in-err-check-names.ensures.1 in
+    let p = err_from_is_err_and c.from-residual-in-err-check_names.result c.from-residual-in-err-check_names.ensures.1 in
     let known-root = root_known t c.args.diagram.now.admitted id (shown_kind c.in-ok-kind.field-0) c.in-ok-kind.ensures.answer in
-    p.1 ∙ ap Err p.2 ∙ root_names c.args.names.now (option_map (λ x. x.now) c.args.releases) t id c.in-err-check-names.field-0.0 known-root c.in-err-check-names.ensures
+    p.1 ∙ ap Err p.2 ∙ root_names c.args.names.now (option_map (λ x. x.now) c.args.releases) t id c.in-err-check_names.field-0.0 known-root c.in-err-check_names.ensures
 
 pub overflow-add-id-end : goal.overflow-add-id-end
 overflow-add-id-end c =
@@ -49,7 +49,7 @@ returns c =
     let id : ℕ = c.args.root.0 in
     let known-root = root_known t c.args.diagram.now.admitted id (shown_kind c.in-ok-kind.field-0) c.in-ok-kind.ensures.answer in
     let here : get_or c.loop-id.table id false ≡ extras names rs t id = c.loop-id.invariant.1 id (omega arith) in
-    ap Ok here ∙ sym (ap (λ o. unless_refused o (extras names rs t id)) (passed (names_refusal names) c.in-ok-check-names.ensures)) ∙ root_answer names rs t id known-root
+    ap Ok here ∙ sym (ap (λ o. unless_refused o (extras names rs t id)) (passed (names_refusal names) c.in-ok-check_names.ensures)) ∙ root_answer names rs t id known-root
 
 pub loop-id-preserved : goal.loop-id-preserved
 loop-id-preserved c =

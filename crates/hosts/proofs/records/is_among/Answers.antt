@@ -5,11 +5,11 @@ use Rattle.hosts.specs.Records.{among}
 use Rattle.hosts.proofs.Recording.{among_turn}
 use Rattle.hosts.proofs.records.is_among.Goals as goal
 
-pub returns-then-is-eq : goal.returns-then-is-eq
-returns-then-is-eq c = sym (among_turn c.args.names.now (text_bytes c.args.name.now) c.loop-other.other-index true c.compare.result c.loop-other-test.true c.compare.ensures.value c.if-is-eq.ensures) ∙ c.loop-other.invariant
+pub returns-then-is_eq : goal.returns-then-is_eq
+returns-then-is_eq c = sym (among_turn c.args.names.now (text_bytes c.args.name.now) c.loop-other.other-index true c.compare.result c.loop-other-test.true c.compare.ensures.value c.if-is_eq.ensures) ∙ c.loop-other.invariant
 
 pub loop-other-preserved : goal.loop-other-preserved
-loop-other-preserved c = sym (among_turn c.args.names.now (text_bytes c.args.name.now) c.loop-other.other-index false c.compare.result c.loop-other-test.true c.compare.ensures.value c.if-is-eq.ensures) ∙ c.loop-other.invariant
+loop-other-preserved c = sym (among_turn c.args.names.now (text_bytes c.args.name.now) c.loop-other.other-index false c.compare.result c.loop-other-test.true c.compare.ensures.value c.if-is_eq.ensures) ∙ c.loop-other.invariant
 
 pub returns : goal.returns
 returns c = sym (at_drop_all (λ ts. among ts (text_bytes c.args.name.now)) c.args.names.now c.loop-other.other-index c.loop-other-test.false) ∙ c.loop-other.invariant

@@ -29,19 +29,19 @@ returns-then-not-continues g c =
 pub loop-place-preserved : goal.loop-place-preserved
 loop-place-preserved g c = turn g.T.Order.row c.args.edges.now c.loop-place.place (option_map (λ x. x.now) c.loop-place.before) c.index-edges-place.result true c.loop-place-test.true c.index-edges-place.is c.if-not-continues.ensures ∙ c.loop-place.invariant
 
-pub returns-then-is-closed : goal.returns-then-is-closed
-returns-then-is-closed g c =
+pub returns-then-is_closed : goal.returns-then-is_closed
+returns-then-is_closed g c =
     let row = g.T.Order.row in
     let es = c.args.edges.now in
     let i : ℕ = c.loop-place.place in
-    let answer : None ≡ uncovered row es = end row es i (option_map (λ x. x.now) c.loop-place.before) true c.loop-place-test.false c.if-is-closed.ensures ∙ c.loop-place.invariant in
+    let answer : None ≡ uncovered row es = end row es i (option_map (λ x. x.now) c.loop-place.before) true c.loop-place-test.false c.if-is_closed.ensures ∙ c.loop-place.invariant in
     record { answer = answer; law = placed row es None answer; one = parted row es }
 
-pub returns-else-is-closed : goal.returns-else-is-closed
-returns-else-is-closed g c =
+pub returns-else-is_closed : goal.returns-else-is_closed
+returns-else-is_closed g c =
     let row = g.T.Order.row in
     let es = c.args.edges.now in
     let i : ℕ = c.loop-place.place in
-    let last : c.saturating-sub.result ≡ i - 1 = omega arith in
-    let answer : Some c.saturating-sub.result ≡ uncovered row es = ap Some last ∙ end row es i (option_map (λ x. x.now) c.loop-place.before) false c.loop-place-test.false c.if-is-closed.ensures ∙ c.loop-place.invariant in
-    record { answer = answer; law = placed row es (Some c.saturating-sub.result) answer; one = parted row es }
+    let last : c.saturating_sub.result ≡ i - 1 = omega arith in
+    let answer : Some c.saturating_sub.result ≡ uncovered row es = ap Some last ∙ end row es i (option_map (λ x. x.now) c.loop-place.before) false c.loop-place-test.false c.if-is_closed.ensures ∙ c.loop-place.invariant in
+    record { answer = answer; law = placed row es (Some c.saturating_sub.result) answer; one = parted row es }

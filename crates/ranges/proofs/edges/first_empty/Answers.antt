@@ -11,11 +11,11 @@ use Rattle.ranges.proofs.edges.first_empty.Goals as goal
 turn : {T : Type 0} (row : T → Row) (es : List (Edge T)) (i : ℕ) (e : Edge T) (b : Bool) → i < length es → e ≡ get_or es i e → b ≡ empty_edge row e → cond b (Some i) (first_from (empty_edge row) (i + 1) (drop (i + 1) es)) ≡ first_from (empty_edge row) i (drop i es)
 turn row es i e b lt is h = ap (λ t. cond t (Some i) (first_from (empty_edge row) (i + 1) (drop (i + 1) es))) h ∙ sym (at_read (first_from (empty_edge row) i) es i e lt is)
 
-pub returns-then-is-empty : goal.returns-then-is-empty
-returns-then-is-empty g c = turn g.T.Order.row c.args.edges.now c.loop-place.place c.index-edges-place.result true c.loop-place-test.true c.index-edges-place.is c.if-is-empty.ensures.answer ∙ c.loop-place.invariant
+pub returns-then-is_empty : goal.returns-then-is_empty
+returns-then-is_empty g c = turn g.T.Order.row c.args.edges.now c.loop-place.place c.index-edges-place.result true c.loop-place-test.true c.index-edges-place.is c.if-is_empty.ensures.answer ∙ c.loop-place.invariant
 
 pub loop-place-preserved : goal.loop-place-preserved
-loop-place-preserved g c = turn g.T.Order.row c.args.edges.now c.loop-place.place c.index-edges-place.result false c.loop-place-test.true c.index-edges-place.is c.if-is-empty.ensures.answer ∙ c.loop-place.invariant
+loop-place-preserved g c = turn g.T.Order.row c.args.edges.now c.loop-place.place c.index-edges-place.result false c.loop-place-test.true c.index-edges-place.is c.if-is_empty.ensures.answer ∙ c.loop-place.invariant
 
 pub returns : goal.returns
 returns g c = sym (first_past (empty_edge g.T.Order.row) c.args.edges.now c.loop-place.place c.loop-place-test.false) ∙ c.loop-place.invariant

@@ -24,8 +24,8 @@ returns-then-place-nodes c =
     let far : length t.nodes ≤ id / 2 - 1 = c.if-place-nodes.true in
     record { answer = unknown_id t id (omega arith) far; law = view_shows t c.args.self.now.admitted c.args.id.0 }
 
-pub node-kind-requires : goal.node-kind-requires
-node-kind-requires c =
+pub node_kind-requires : goal.node_kind-requires
+node_kind-requires c =
     let t : Table = table_of c.args.self.now in
     let i : ℕ = c.args.id.0 / 2 - 1 in
     (i, (sound t c.args.self.now.admitted).node i c.if-place-nodes.false)
@@ -34,4 +34,4 @@ pub returns : goal.returns
 returns c =
     let t : Table = table_of c.args.self.now in
     let id : ℕ = c.args.id.0 in
-    record { answer = shows_node t id (omega arith) c.if-place-nodes.false (shown_kind c.node-kind.result) c.node-kind.ensures; law = view_shows t c.args.self.now.admitted c.args.id.0 }
+    record { answer = shows_node t id (omega arith) c.if-place-nodes.false (shown_kind c.node_kind.result) c.node_kind.ensures; law = view_shows t c.args.self.now.admitted c.args.id.0 }

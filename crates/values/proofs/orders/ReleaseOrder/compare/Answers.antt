@@ -4,7 +4,7 @@ use Rattle.std.proofs.lemmas.List.{drop_all}
 use Rattle.values.specs.Rows.{Row, by_row}
 use Rattle.values.specs.Releases.{most_numbers, release_row, number, Before, Same}
 use Rattle.values.specs.declared.releases.Release.{Release}
-use Rattle.values.specs.Lines.{row_step, rank_says, row_itself, differs}
+use Rattle.values.specs.Lines.{row_step, row_itself, differs}
 use Rattle.values.proofs.Written.{length-row, row_number, release_words}
 use Rattle.values.proofs.orders.ReleaseOrder.compare.Goals as goal
 
@@ -18,18 +18,18 @@ step a b i o lt e =
     ∙ ap (λ (k : Ordering). ordering_then k (by_row (drop (i + 1) (release_row a)) (drop (i + 1) (release_row b)))) e
 
 -- what the comparison of the numbers at a place says of their order
-ranked : (a b : Release) (i x y : ℕ) (o : Ordering) → x ≡ number a i → y ≡ number b i → MatchOrdering o (x < y) (x ≡ y) (y < x) → nat_cmp (number a i) (number b i) ≡ o
-ranked a b i x y o p q h = sym (ap (λ (m : ℕ). nat_cmp m (number b i)) p) ∙ sym (ap (nat_cmp x) q) ∙ rank_says x y o h
+ranked : (a b : Release) (i x y : ℕ) (o : Ordering) → x ≡ number a i → y ≡ number b i → o ≡ nat_cmp x y → nat_cmp (number a i) (number b i) ≡ o
+ranked a b i x y o p q h = sym (ap (λ (m : ℕ). nat_cmp m (number b i)) p) ∙ sym (ap (nat_cmp x) q) ∙ sym h
 
-pub returns-in-default : goal.returns-in-default
-returns-in-default c =
+pub returns-in_default : goal.returns-in_default
+returns-in_default c =
     let a = c.args.self.now in
     let b = c.args.other.now in
     let i : ℕ = c.loop-place.place in
     let o : Ordering = c.cmp.result in
     let here = ranked a b i c.number.result c.number-in-loop-place.result o c.number.ensures c.number-in-loop-place.ensures c.cmp.ensures in
     let rest : Ordering = by_row (drop (i + 1) (release_row a)) (drop (i + 1) (release_row b)) in
-    let value : o ≡ by_row (release_row a) (release_row b) = sym (step a b i o c.loop-place-test.true here ∙ differs o rest c.in-default.not-Equal) ∙ c.loop-place.invariant in
+    let value : o ≡ by_row (release_row a) (release_row b) = sym (step a b i o c.loop-place-test.true here ∙ differs o rest c.in_default.not-Equal) ∙ c.loop-place.invariant in
     record { value = value; words = told a b o value }
 
 pub loop-place-preserved : goal.loop-place-preserved

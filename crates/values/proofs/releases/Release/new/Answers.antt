@@ -8,10 +8,10 @@ use Rattle.values.proofs.Firsts.{first_here, first_past}
 use Rattle.values.proofs.Making.{copied_more, copied_all, count_wrong, count_right, refused_count, answered, makes_release}
 use Rattle.values.proofs.releases.Release.new.Goals as goal
 
-pub returns-then-is-empty : goal.returns-then-is-empty
-returns-then-is-empty c =
+pub returns-then-is_empty : goal.returns-then-is_empty
+returns-then-is_empty c =
     let ns = c.args.numbers.now in
-    let wrong : wrong_count ns ≡ true = count_wrong ns (elim c.then-is-empty.either [ inl e ↦ inl (eqb-true (length ns) 0 (sym c.is-empty.ensures ∙ e)) | inr p ↦ inr p.1 ]) in
+    let wrong : wrong_count ns ≡ true = count_wrong ns (elim c.then-is_empty.either [ inl e ↦ inl (eqb-true (length ns) 0 (sym c.is_empty.ensures ∙ e)) | inr p ↦ inr p.1 ]) in
     let answer : Err ReleaseCount ≡ made_release ns = refused_count ns wrong in
     record { answer = answer; law = subst (MakesRelease ns) (sym answer) (makes_release ns) }
 
@@ -19,7 +19,7 @@ pub returns-then-number-gt-LARGEST : goal.returns-then-number-gt-LARGEST
 returns-then-number-gt-LARGEST c =
     let ns = c.args.numbers.now in
     let i : ℕ = c.loop-index.index in
-    let right : wrong_count ns ≡ false = count_right ns (omega arith) c.if-numbers-gt-MOST-NUMBERS.false in
+    let right : wrong_count ns ≡ false = count_right ns (omega arith) c.if-numbers-gt-MOST_NUMBERS.false in
     let here : first_place (ltb largest) ns ≡ Some i = sym c.loop-index.invariant.left ∙ first_here 0 (ltb largest) ns i true c.loop-index-test.true (lt-ltb largest (get_or ns i 0) c.if-number-gt-LARGEST.true) in
     let answer : Err (NumberTooLarge i) ≡ made_release ns = answered ns (Some i) right here in
     record { answer = answer; law = subst (MakesRelease ns) (sym answer) (makes_release ns) }
@@ -39,8 +39,8 @@ returns c =
     let i : ℕ = c.loop-index.index in
     let stored = copied_all most_numbers ns c.loop-index.stored i c.loop-index-test.false (omega arith) c.loop-index.invariant.copied in
     let none : first_place (ltb largest) ns ≡ None = sym c.loop-index.invariant.left ∙ first_past (ltb largest) ns i c.loop-index-test.false in
-    let some = eqb-false (length ns) 0 (sym c.if-is-empty.ensures) in
-    let right : wrong_count ns ≡ false = count_right ns (omega arith) c.if-numbers-gt-MOST-NUMBERS.false in
+    let some = eqb-false (length ns) 0 (sym c.if-is_empty.ensures) in
+    let right : wrong_count ns ≡ false = count_right ns (omega arith) c.if-numbers-gt-MOST_NUMBERS.false in
     let release : Release = record { count = length ns; numbers = c.loop-index.stored } in
     let answer : Ok release ≡ made_release ns = ap (λ (s : List ℕ). Ok (record { count = length ns; numbers = s })) stored ∙ answered ns None right none in
     record { answer = answer; law = subst (MakesRelease ns) (sym answer) (makes_release ns) }

@@ -14,23 +14,23 @@ named t bs r e h = h ∙ ap (normal_rest true) e ∙ sym (text_named t)
 decided : (t : Text) (r : Bool) → r ≡ normal_name (text_bytes t) → Decides r (Normal (text_bytes t))
 decided t r e = Decides-at r (normal_name (text_bytes t)) e (normal_says (text_bytes t))
 
-pub returns-then-not-may-come : goal.returns-then-not-may-come
-returns-then-not-may-come c =
+pub returns-then-not-may_come : goal.returns-then-not-may_come
+returns-then-not-may_come c =
     let t = c.args.self.now in
-    let bs : List ℕ = c.as-bytes-byte-items.result.now in
-    let stops = rest_more c.loop-byte.barred bs c.loop-byte.byte-index false c.loop-byte-test.true c.if-not-may-come.ensures in
-    let answer : false ≡ normal_name (text_bytes t) = named t bs false c.as-bytes-byte-items.ensures (sym stops ∙ c.loop-byte.invariant) in
+    let bs : List ℕ = c.as_bytes-byte-items.result.now in
+    let stops = rest_more c.loop-byte.barred bs c.loop-byte.byte-index false c.loop-byte-test.true c.if-not-may_come.ensures in
+    let answer : false ≡ normal_name (text_bytes t) = named t bs false c.as_bytes-byte-items.ensures (sym stops ∙ c.loop-byte.invariant) in
     record { answer = answer; law = decided t false answer }
 
 pub loop-byte-preserved : goal.loop-byte-preserved
 loop-byte-preserved c =
-    sym (rest_more c.loop-byte.barred c.as-bytes-byte-items.result.now c.loop-byte.byte-index true c.loop-byte-test.true c.if-not-may-come.ensures) ∙ c.loop-byte.invariant
+    sym (rest_more c.loop-byte.barred c.as_bytes-byte-items.result.now c.loop-byte.byte-index true c.loop-byte-test.true c.if-not-may_come.ensures) ∙ c.loop-byte.invariant
 
 pub returns : goal.returns
 returns c =
     let t = c.args.self.now in
-    let bs : List ℕ = c.as-bytes-byte-items.result.now in
+    let bs : List ℕ = c.as_bytes-byte-items.result.now in
     let r : Bool = not c.loop-byte.barred in
     let ends = at_drop_all (normal_rest c.loop-byte.barred) bs c.loop-byte.byte-index c.loop-byte-test.false in
-    let answer : r ≡ normal_name (text_bytes t) = named t bs r c.as-bytes-byte-items.ensures (sym ends ∙ c.loop-byte.invariant) in
+    let answer : r ≡ normal_name (text_bytes t) = named t bs r c.as_bytes-byte-items.ensures (sym ends ∙ c.loop-byte.invariant) in
     record { answer = answer; law = decided t r answer }
