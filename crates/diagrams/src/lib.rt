@@ -1,5 +1,6 @@
 // Marker diagrams: their rows, the ids of nodes, admission, and what an id shows.
 #![tactic(auto)]
+
 pub mod admission;
 pub mod diagram;
 pub mod ids;

@@ -1,5 +1,6 @@
 // Hosts, and reporters of warnings.
 #![tactic(auto)]
+
 pub mod hosts;
 pub mod keeping;
 pub mod lending;

@@ -21,14 +21,14 @@ returns-then-edge-first g c =
     let es = c.args.edges.now in
     let first = c.first-item.result in
     let h : 0 < length es = search rules in
-    let stops = leads_turn first.child (take (length es - 1) (drop 1 es)) c.loop-edge.edge_index c.edge-item.result false c.loop-edge-test.true c.edge-item.is (ne_eqb c.edge-item.result.child first.child c.if-edge-first.true) in
+    let stops = leads_turn first.child (take (length es - 1) (drop 1 es)) c.loop-edge.edge-index c.edge-item.result false c.loop-edge-test.true c.edge-item.is (ne_eqb c.edge-item.result.child first.child c.if-edge-first.true) in
     same_as_first es first c.args.place false h c.first-item.is (behind es first.child false (sym c.loop-edge.invariant ∙ stops))
 
 pub loop-edge-preserved : goal.loop-edge-preserved
 loop-edge-preserved g c =
     let es = c.args.edges.now in
     let first = c.first-item.result in
-    sym (leads_turn first.child (take (length es - 1) (drop 1 es)) c.loop-edge.edge_index c.edge-item.result true c.loop-edge-test.true c.edge-item.is (eq-eqb c.edge-item.result.child first.child c.if-edge-first.false)) ∙ c.loop-edge.invariant
+    sym (leads_turn first.child (take (length es - 1) (drop 1 es)) c.loop-edge.edge-index c.edge-item.result true c.loop-edge-test.true c.edge-item.is (eq-eqb c.edge-item.result.child first.child c.if-edge-first.false)) ∙ c.loop-edge.invariant
 
 pub returns-in_default : goal.returns-in_default
 returns-in_default g c =
@@ -40,5 +40,5 @@ returns-after-loop-edge g c =
     let es = c.args.edges.now in
     let first = c.first-item.result in
     let h : 0 < length es = search rules in
-    let ends = leads_end first.child (take (length es - 1) (drop 1 es)) c.loop-edge.edge_index c.loop-edge-test.false in
+    let ends = leads_end first.child (take (length es - 1) (drop 1 es)) c.loop-edge.edge-index c.loop-edge-test.false in
     same_as_first es first c.args.place true h c.first-item.is (behind es first.child true (sym c.loop-edge.invariant ∙ ends))

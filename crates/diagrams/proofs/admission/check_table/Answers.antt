@@ -9,15 +9,15 @@ use Rattle.diagrams.proofs.admission.check_table.Goals as goal
 pub returns-then-nodes-gt-MOST_NODES : goal.returns-then-nodes-gt-MOST_NODES
 returns-then-nodes-gt-MOST_NODES c = ap answer (sym (many (table c.args.nodes.now c.args.releases.now c.args.texts.now) c.if-nodes-gt-MOST_NODES.true))
 
-pub returns-in-err-check_node : goal.returns-in-err-check_node
-returns-in-err-check_node c =
+pub returns-in_err-check_node : goal.returns-in_err-check_node
+returns-in_err-check_node c =
     let ns = c.args.nodes.now in
     let rs = c.args.releases.now in
     let ts = c.args.texts.now in
     let i : ℕ = c.loop-place.place in
-    let p = err_from_is_err_and c.from-residual.result c.from-residual.ensures.1 in
+    let p = err_from_is_err_and c.from_residual.result c.from_residual.ensures.1 in
     rw (p.1, p.2)
-    (stops (node_refusal rs ts i (get_or ns i no_node)) (nodes_refusal rs ts (i + 1) (drop (i + 1) ns)) _ c.in-err-check_node.ensures
+    (stops (node_refusal rs ts i (get_or ns i no_node)) (nodes_refusal rs ts (i + 1) (drop (i + 1) ns)) _ c.in_err-check_node.ensures
     ∙ ap answer (sym (nodes_more rs ts ns i (get_or ns i no_node) c.loop-place-test.true refl) ∙ c.loop-place.invariant ∙ sym (few (table ns rs ts) c.if-nodes-gt-MOST_NODES.false)))
 
 pub loop-place-preserved : goal.loop-place-preserved
@@ -26,7 +26,7 @@ loop-place-preserved c =
     let rs = c.args.releases.now in
     let ts = c.args.texts.now in
     let i : ℕ = c.loop-place.place in
-    sym (nodes_more rs ts ns i (get_or ns i no_node) c.loop-place-test.true refl ∙ goes_on (node_refusal rs ts i (get_or ns i no_node)) (nodes_refusal rs ts (i + 1) (drop (i + 1) ns)) c.in-ok-check_node.ensures) ∙ c.loop-place.invariant
+    sym (nodes_more rs ts ns i (get_or ns i no_node) c.loop-place-test.true refl ∙ goes_on (node_refusal rs ts i (get_or ns i no_node)) (nodes_refusal rs ts (i + 1) (drop (i + 1) ns)) c.in_ok-check_node.ensures) ∙ c.loop-place.invariant
 
 pub returns : goal.returns
 returns c =

@@ -22,12 +22,12 @@ counted rs k id e b c h = h ∙ ap (λ q. q && c) (sym (counts-seen rs k id e))
 
 pub returns-then-leads_to_yes : goal.returns-then-leads_to_yes
 returns-then-leads_to_yes c =
-    sym (any_turn (seen c.args.tree.now.id.0) (λ e. counts (option_map (λ x. x.now) c.args.releases) c.args.tree.now.key e && get_or c.args.table.now e.child false) c.args.tree.now.edges.now c.loop-edge.edge_index no_edge true c.loop-edge-test.true (counted (option_map (λ x. x.now) c.args.releases) c.args.tree.now.key c.args.tree.now.id.0 (get_or c.args.tree.now.edges.now c.loop-edge.edge_index no_edge) _ _ c.if-leads_to_yes.ensures)) ∙ c.loop-edge.invariant
+    sym (any_turn (seen c.args.tree.now.id.0) (λ e. counts (option_map (λ x. x.now) c.args.releases) c.args.tree.now.key e && get_or c.args.table.now e.child false) c.args.tree.now.edges.now c.loop-edge.edge-index no_edge true c.loop-edge-test.true (counted (option_map (λ x. x.now) c.args.releases) c.args.tree.now.key c.args.tree.now.id.0 (get_or c.args.tree.now.edges.now c.loop-edge.edge-index no_edge) _ _ c.if-leads_to_yes.ensures)) ∙ c.loop-edge.invariant
 
 pub loop-edge-preserved : goal.loop-edge-preserved
 loop-edge-preserved c =
-    sym (any_turn (seen c.args.tree.now.id.0) (λ e. counts (option_map (λ x. x.now) c.args.releases) c.args.tree.now.key e && get_or c.args.table.now e.child false) c.args.tree.now.edges.now c.loop-edge.edge_index no_edge false c.loop-edge-test.true (counted (option_map (λ x. x.now) c.args.releases) c.args.tree.now.key c.args.tree.now.id.0 (get_or c.args.tree.now.edges.now c.loop-edge.edge_index no_edge) _ _ c.if-leads_to_yes.ensures)) ∙ c.loop-edge.invariant
+    sym (any_turn (seen c.args.tree.now.id.0) (λ e. counts (option_map (λ x. x.now) c.args.releases) c.args.tree.now.key e && get_or c.args.table.now e.child false) c.args.tree.now.edges.now c.loop-edge.edge-index no_edge false c.loop-edge-test.true (counted (option_map (λ x. x.now) c.args.releases) c.args.tree.now.key c.args.tree.now.id.0 (get_or c.args.tree.now.edges.now c.loop-edge.edge-index no_edge) _ _ c.if-leads_to_yes.ensures)) ∙ c.loop-edge.invariant
 
 pub returns : goal.returns
 returns c =
-    sym (any_end (seen c.args.tree.now.id.0) (λ e. counts (option_map (λ x. x.now) c.args.releases) c.args.tree.now.key e && get_or c.args.table.now e.child false) c.args.tree.now.edges.now c.loop-edge.edge_index c.loop-edge-test.false) ∙ c.loop-edge.invariant
+    sym (any_end (seen c.args.tree.now.id.0) (λ e. counts (option_map (λ x. x.now) c.args.releases) c.args.tree.now.key e && get_or c.args.table.now e.child false) c.args.tree.now.edges.now c.loop-edge.edge-index c.loop-edge-test.false) ∙ c.loop-edge.invariant

@@ -18,15 +18,15 @@ returns-then-contains g c =
     let es = c.args.tree.now.edges.now in
     let r = c.get_version-release.result.now in
     at-host id es r _ c.child.result.0 c.get_version-release.ensures
-    (c.child.ensures ∙ sym (chosen_turn release_row (release_row r) id es c.loop-edge.edge_index no_edge true c.loop-edge-test.true c.if-contains.ensures) ∙ c.loop-edge.invariant)
+    (c.child.ensures ∙ sym (chosen_turn release_row (release_row r) id es c.loop-edge.edge-index no_edge true c.loop-edge-test.true c.if-contains.ensures) ∙ c.loop-edge.invariant)
 
 pub loop-edge-preserved : goal.loop-edge-preserved
 loop-edge-preserved g c =
-    sym (chosen_turn release_row (release_row c.get_version-release.result.now) c.args.tree.now.id.0 c.args.tree.now.edges.now c.loop-edge.edge_index no_edge false c.loop-edge-test.true c.if-contains.ensures) ∙ c.loop-edge.invariant
+    sym (chosen_turn release_row (release_row c.get_version-release.result.now) c.args.tree.now.id.0 c.args.tree.now.edges.now c.loop-edge.edge-index no_edge false c.loop-edge-test.true c.if-contains.ensures) ∙ c.loop-edge.invariant
 
 pub returns : goal.returns
 returns g c =
     let id : ℕ = c.args.tree.now.id.0 in
     let es = c.args.tree.now.edges.now in
     let r = c.get_version-release.result.now in
-    at-host id es r _ 1 c.get_version-release.ensures (sym (chosen_end release_row (release_row r) id es c.loop-edge.edge_index c.loop-edge-test.false) ∙ c.loop-edge.invariant)
+    at-host id es r _ 1 c.get_version-release.ensures (sym (chosen_end release_row (release_row r) id es c.loop-edge.edge-index c.loop-edge-test.false) ∙ c.loop-edge.invariant)

@@ -11,14 +11,14 @@ use Rattle.evaluation.proofs.Saying.{evaluates}
 use Rattle.evaluation.proofs.Walking.{lead_below, answer_more, reports_more, answer_end, reports_end, walk_lacks}
 use Rattle.evaluation.proofs.walks.evaluate.Goals as goal
 
-pub returns-in-err-kind : goal.returns-in-err-kind
-returns-in-err-kind g c =
+pub returns-in_err-kind : goal.returns-in_err-kind
+returns-in_err-kind g c =
     let m : Meaning = g.H.Host.means c.args.host.now in
     let t : Table = table_of c.args.diagram.now in
     let id : ℕ = c.loop-kind.at.0 in
     let told : Tally = g.R.Reporter.tally c.loop-kind.reporter in
-    let p = err_from_is_err_and c.from-residual.result c.from-residual.ensures.1 in
-    let lacks = walk_lacks m t id c.in-err-kind.field-0.0 c.in-err-kind.ensures.answer in
+    let p = err_from_is_err_and c.from_residual.result c.from_residual.ensures.1 in
+    let lacks = walk_lacks m t id c.in_err-kind.field-0.0 c.in_err-kind.ensures.answer in
     record {
       answer = p.1 ∙ ap Err p.2 ∙ sym (ap (λ (w : Walk). w.answer) lacks) ∙ c.loop-kind.invariant.0;
       reports = sym (ap (λ (w : Walk). reported told w.reports) lacks) ∙ c.loop-kind.invariant.1;
@@ -31,10 +31,10 @@ returns-in-Ends g c =
     let t : Table = table_of c.args.diagram.now in
     let a = c.args.diagram.now.admitted in
     let id : ℕ = c.loop-kind.at.0 in
-    let v : View = shown_kind c.in-ok-kind.kind in
+    let v : View = shown_kind c.in_ok-kind.kind in
     let told : Tally = g.R.Reporter.tally c.loop-kind.reporter in
     let more : Tally = g.R.Reporter.tally c.lead.new.reporter in
-    let shows = sym c.in-ok-kind.ensures.answer in
+    let shows = sym c.in_ok-kind.ensures.answer in
     let stops = sym c.in-Ends.ensures.step in
     record {
       answer = answer_end m t a id v c.in-Ends.answer shows stops ∙ c.loop-kind.invariant.0;
@@ -48,10 +48,10 @@ loop-kind-preserved g c =
     let t : Table = table_of c.args.diagram.now in
     let a = c.args.diagram.now.admitted in
     let id : ℕ = c.loop-kind.at.0 in
-    let v : View = shown_kind c.in-ok-kind.kind in
+    let v : View = shown_kind c.in_ok-kind.kind in
     let told : Tally = g.R.Reporter.tally c.loop-kind.reporter in
     let more : Tally = g.R.Reporter.tally c.lead.new.reporter in
-    let shows = sym c.in-ok-kind.ensures.answer in
+    let shows = sym c.in_ok-kind.ensures.answer in
     let leads = sym c.in-Goes.ensures.step in (
       answer_more m t a id v c.in-Goes.child.0 shows leads ∙ c.loop-kind.invariant.0,
       reports_more m t a id v c.in-Goes.child.0 told more shows leads c.in-Goes.ensures.reports ∙ c.loop-kind.invariant.1,
@@ -63,5 +63,5 @@ loop-kind-smaller g c =
     let t : Table = table_of c.args.diagram.now in
     let a = c.args.diagram.now.admitted in
     let id : ℕ = c.loop-kind.at.0 in
-    let v : View = shown_kind c.in-ok-kind.kind in
-    lead_below m id v ((view_shows t a id).sound v (sym c.in-ok-kind.ensures.answer)) c.in-Goes.child.0 (sym c.in-Goes.ensures.step)
+    let v : View = shown_kind c.in_ok-kind.kind in
+    lead_below m id v ((view_shows t a id).sound v (sym c.in_ok-kind.ensures.answer)) c.in-Goes.child.0 (sym c.in-Goes.ensures.step)

@@ -16,7 +16,7 @@ pub loop-piece-preserved : goal.loop-piece-preserved
 loop-piece-preserved c =
     let l = c.loop-piece in
     let s = c.in-Some.ensures.steps in
-    (number_more (pieces_left 46 (option_map (λ x. x.now) c.into-iter-piece-iterator.result.rest)) (vec_items l.numbers) l.piece-iterator.mark (option_map (λ x. x.now) l.piece-iterator.rest) (option_map (λ x. x.now) c.next.new.self.rest) c.in-Some.piece.now l.invariant.1 s.0 l.invariant.0 c.in-Some-decimal.number (vec_items c.push.new.self) c.in-Some-decimal.ensures c.in-ok-push.ensures.items, s.1 ∙ l.invariant.1)
+    (number_more (pieces_left 46 (option_map (λ x. x.now) c.into-iter-piece-iterator.result.rest)) (vec_items l.numbers) l.piece-iterator.mark (option_map (λ x. x.now) l.piece-iterator.rest) (option_map (λ x. x.now) c.next.new.self.rest) c.in-Some.piece.now l.invariant.1 s.0 l.invariant.0 c.in-Some-decimal.number (vec_items c.push.new.self) c.in-Some-decimal.ensures c.in_ok-push.ensures.items, s.1 ∙ l.invariant.1)
 
 pub returns-in_default : goal.returns-in_default
 returns-in_default c v h =

@@ -5,9 +5,9 @@ use Rattle.diagrams.proofs.Checks.{passes}
 use Rattle.diagrams.proofs.Lawful.{refuses, sound}
 use Rattle.diagrams.proofs.diagram.Diagram.admit.Goals as goal
 
-pub invariant-of-result-in-Err : goal.invariant-of-result-in-Err
+pub invariant_of-result-in-Err : goal.invariant_of-result-in-Err
 unfolding first_refusal
-invariant-of-result-in-Err c = (refl, tt)
+invariant_of-result-in-Err c = record { admitted = refl }
 
 pub returns-in-Ok : goal.returns-in-Ok
 returns-in-Ok c =
