@@ -1,6 +1,6 @@
 -- The search for a part in a text.
 use Rattle.std.proofs.Common.{◌≡◌, ℕ, suc, ◌+◌, ◌-◌, ◌<◌, ◌≤◌, Bool, true, false, ◌&&◌, ◌||◌, eqb, ◌⊎◌, List, [], ◌∷◌, ◌++◌, length, take, drop, Decides, sym, refl, ap, ◌∙◌, subst, inl, inr, arith}
-use Rattle.std.specs.Cmp.Lexicographic.{Matches}
+use Rattle.std.specs.Cmp.Lexicographic.{pointwise}
 use Rattle.std.proofs.lemmas.Slice.Eq.{starts_is}
 use Rattle.std.proofs.lemmas.List.{at_drop_more, take_rest}
 use Rattle.std.proofs.lemmas.Bool.{and_parts, and_from, or_cases, or_left, or_right, eqb-true, eq-eqb, ne_eqb, true≢false}
@@ -32,7 +32,7 @@ begins_says : (part text : List ℕ) → Decides (begins part text) (Front part 
 begins_says part text = (begins_from part text, λ w. begins_to part text w.rest w.is)
 
 -- what `starts_with` answers
-pub starts : (part text : List ℕ) (r : Bool) → Matches (λ (a b : ℕ) (t : Bool). Decides t (a ≡ b)) part (take (length part) text) r → r ≡ begins part text
+pub starts : (part text : List ℕ) (r : Bool) → r ≡ pointwise eqb part (take (length part) text) → r ≡ begins part text
 starts part text r m =
     let s = starts_is Decides-eqb text part r m in
     same_from_decides r (begins part text) (λ e. record { rest = drop (length part) text; is = s.0 e }, λ w. s.1 w.rest w.is) (begins_says part text)

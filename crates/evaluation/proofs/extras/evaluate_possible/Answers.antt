@@ -26,8 +26,8 @@ returns-in_err-check_names c =
     let known-root = root_known t c.args.diagram.now.admitted id (shown_kind c.in_ok-kind.field-0) c.in_ok-kind.ensures.answer in
     p.1 ∙ ap Err p.2 ∙ root_names c.args.names.now (option_map (λ x. x.now) c.args.releases) t id c.in_err-check_names.field-0.0 known-root c.in_err-check_names.ensures
 
-pub overflow-add-id-end : goal.overflow-add-id-end
-overflow-add-id-end c =
+pub overflow_add-id-end : goal.overflow_add-id-end
+overflow_add-id-end c =
     let low = root_low (table_of c.args.diagram.now) c.args.diagram.now.admitted c.args.root.0 (shown_kind c.in_ok-kind.field-0) c.in_ok-kind.ensures.answer in
     search rules
 
