@@ -1,7 +1,7 @@
 ghost use Rattle.std.specs.Prelude.{◌≡◌, is_ok, if◌then◌else◌, slice_set};
 ghost use Rattle.diagrams.specs.Tables.{table, no_table};
 ghost use Rattle.diagrams.specs.Admission.{answer, first_refusal};
-ghost use Rattle.diagrams.specs.Views.{known as is_Known};
+ghost use Rattle.diagrams.specs.Views.{known as is_known};
 
 use diagrams::diagram::Diagram;
 use diagrams::ids::NodeId;
@@ -30,7 +30,7 @@ pub fn rewrite(
     edge: ReleaseEdge,
 ) -> Rewriting
     ensures before { result.before ≡ answer (first_refusal (table nodes.old releases.old texts.old)) }
-    ensures known { result.known ≡ is_Known (if is_ok result.before then table nodes.old releases.old texts.old else no_table) id.0 }
+    ensures known { result.known ≡ is_known (if is_ok result.before then table nodes.old releases.old texts.old else no_table) id.0 }
     ensures after { result.after ≡ answer (first_refusal (table nodes.new releases.new texts.new)) }
     ensures written { releases.new ≡ slice_set releases.old place edge }
     ensures kept { (nodes.new ≡ nodes.old) × (texts.new ≡ texts.old) }

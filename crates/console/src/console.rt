@@ -29,13 +29,13 @@ pub(crate) struct Console {
 }
 
 impl Console {
-    pub(crate) fn new(heap: Global, out: Stdout) -> Console {
-        Console {
+    pub(crate) fn new(heap: Global, out: Stdout) -> io::Result<Console> {
+        Ok(Console {
             heap,
-            out: BufWriter::new(out),
+            out: BufWriter::new(heap, out)?,
             table: Table::new(heap),
             station: Station::new(heap),
-        }
+        })
     }
 
     // Answers the commands of a script.

@@ -1,5 +1,6 @@
 // Reads a script of commands on standard input, and prints what the unit answers to each.
 #![tactic(auto)]
+
 mod command;
 mod console;
 mod host_command;
@@ -21,7 +22,7 @@ use std::io::Read;
 fn main(rt: HostRuntime) -> io::Result<()> {
     let mut input = Vec::new(rt.alloc());
     rt.stdin().read_to_end(&mut input)?;
-    let mut console = Console::new(rt.alloc(), rt.stdout());
+    let mut console = Console::new(rt.alloc(), rt.stdout())?;
     console.run(&mut Script::new(&input))?;
     console.finish()
 }

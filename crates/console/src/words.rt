@@ -151,7 +151,7 @@ impl<'a> Words<'a> {
     // Releases with a comma between two, or `-` for none.
     pub(crate) fn releases(&mut self) -> Result<Vec<ReleaseWord>, Unread> {
         let word = self.word()?;
-        if word == b"-" {
+        if word == b"-".as_slice() {
             return Ok(Vec::new(self.heap));
         }
         read_all(self.heap, &mut split(word, b','))
@@ -265,7 +265,7 @@ impl Written for ReleaseWord {
     ghost made = { λ v. made_release v.numbers.items };
 
     fn read(heap: Global, word: &[u8]) -> Result<ReleaseWord, Unread> {
-        if word == b"-" {
+        if word == b"-".as_slice() {
             return Ok(ReleaseWord {
                 numbers: Vec::new(heap),
             });
@@ -316,7 +316,7 @@ impl<V: Written> Written for Bound<V> {
     ghost made = { λ b. made_bound V.Written.made b };
 
     fn read(heap: Global, word: &[u8]) -> Result<Bound<V>, Unread> {
-        if word == b"*" {
+        if word == b"*".as_slice() {
             return Ok(Bound::Unbounded);
         }
         match word {
