@@ -3,3 +3,4 @@ mod Cutting
 mod Readings
 mod Pairs
 mod Bounding
+mod Pieces

@@ -1,4 +1,4 @@
--- Decimal digits are read one at a time, and the numbers of a release piece by piece.
+-- Decimal digits are read one at a time.
 use Rattle.std.proofs.Common.{◌≡◌, ℕ, suc, ◌+◌, ◌*◌, ◌^◌, ◌<◌, ◌≤◌, List, [], ◌∷◌, ◌++◌, length, get_or, drop, Some, Option, sym, refl, ap, ◌∙◌, subst, arith, drop_of_length-le, drop-cons}
 use Rattle.std.specs.Str.Parse.{AllDigits, IsNumeral, digits_value_after, digits_value}
 use Rattle.std.specs.Char.{digit_value}
@@ -38,37 +38,3 @@ module _ (all b : List ℕ) (at n : ℕ) (s : SoFar all (drop at b) n) where
   all_read h some fits =
       let t : SoFar all [] n = subst (λ l. SoFar all l n) (drop_of_length-le b h) s in
       (((some, t.back tt), omega (arith, t.same)), t.same)
-
--- A RELEASE. The pieces before those that are left write the numbers so far
-abbrev pub NumbersSoFar : List (List ℕ) → List (List ℕ) → List ℕ → Type 0
-NumbersSoFar all left ns = (ps : List (List ℕ)) × (all ≡ ps ++ left) × Decimals ps ns
-
-decimals_push : (ps : List (List ℕ)) (ns p : List ℕ) (n : ℕ) → Decimals ps ns → Decimal p n → Decimals (ps ++ (p ∷ [])) (ns ++ (n ∷ []))
-decimals_push [] [] p n h d = (d, tt)
-decimals_push [] (m ∷ ns) p n h d = absurd h
-decimals_push (q ∷ ps) [] p n h d = absurd h
-decimals_push (q ∷ ps) (m ∷ ns) p n h d = (h.0, decimals_push ps ns p n h.1 d)
-
-decimals_at : (ps qs : List (List ℕ)) (p ns : List ℕ) → Decimals (ps ++ (p ∷ qs)) ns → (n : ℕ) × Decimal p n
-decimals_at [] qs p [] h = absurd h
-decimals_at [] qs p (n ∷ ns) h = (n, h.0)
-decimals_at (q ∷ ps) qs p [] h = absurd h
-decimals_at (q ∷ ps) qs p (n ∷ ns) h = decimals_at ps qs p ns h.1
-
-module _ (all : List (List ℕ)) (ns : List ℕ) where
-  pub numbers_begun : ns ≡ [] → NumbersSoFar all all ns
-  numbers_begun e = ([], refl, rw e tt)
-
-  pub numbers_all : NumbersSoFar all [] ns → Decimals all ns
-  numbers_all s = rw (s.1, append-nil s.0) s.2
-
-  -- the next piece is read
-  module _ (mark : ℕ) (before after : Option (List ℕ)) (piece : List ℕ) (dot : mark ≡ 46) (next : Gives mark before (Some piece) after) (s : NumbersSoFar all (pieces_left 46 before) ns) where
-    cut : all ≡ s.0 ++ (piece ∷ pieces_left 46 after)
-    cut = s.1 ∙ ap (λ l. s.0 ++ l) (rw dot at next)
-
-    pub number_more : (n : ℕ) (ms : List ℕ) → Decimal piece n → ms ≡ ns ++ (n ∷ []) → NumbersSoFar all (pieces_left 46 after) ms
-    number_more n ms d e = (s.0 ++ (piece ∷ []), cut ∙ sym (append_assoc s.0 (piece ∷ []) (pieces_left 46 after)), rw e (decimals_push s.0 ns piece n s.2 d))
-
-    pub no_number : ((n : ℕ) → Decimal piece n → ⊥) → (ms : List ℕ) → Decimals all ms → ⊥
-    no_number none ms h = let d = decimals_at s.0 (pieces_left 46 after) piece ms (rw cut at h) in none d.0 d.1

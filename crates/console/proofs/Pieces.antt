@@ -1,0 +1,56 @@
+-- A value for each piece, read piece by piece.
+use Rattle.std.proofs.Common.{◌≡◌, ℕ, List, [], ◌∷◌, ◌++◌, None, Some, Option, sym, refl, ap, ◌∙◌}
+use Rattle.std.proofs.lemmas.List.{append-nil, append_assoc}
+use Rattle.console.specs.Cuts.{Gives, pieces_left}
+use Rattle.console.specs.Spelling.{Decimal, Decimals, Each}
+
+module _ {V : Type 0} (written : List ℕ → V → Type 0) where
+  -- the pieces before those that are left write the values so far
+  abbrev pub ValuesSoFar : List (List ℕ) → List (List ℕ) → List V → Type 0
+  ValuesSoFar all left vs = (ps : List (List ℕ)) × (all ≡ ps ++ left) × Each written ps vs
+
+  each_push : (ps : List (List ℕ)) (vs : List V) (p : List ℕ) (v : V) → Each written ps vs → written p v → Each written (ps ++ (p ∷ [])) (vs ++ (v ∷ []))
+  each_push [] [] p v h w = (w, tt)
+  each_push [] (u ∷ vs) p v h w = absurd h
+  each_push (q ∷ ps) [] p v h w = absurd h
+  each_push (q ∷ ps) (u ∷ vs) p v h w = (h.0, each_push ps vs p v h.1 w)
+
+  each_at : (ps qs : List (List ℕ)) (p : List ℕ) (vs : List V) → Each written (ps ++ (p ∷ qs)) vs → (v : V) × written p v
+  each_at [] qs p [] h = absurd h
+  each_at [] qs p (v ∷ vs) h = (v, h.0)
+  each_at (q ∷ ps) qs p [] h = absurd h
+  each_at (q ∷ ps) qs p (v ∷ vs) h = each_at ps qs p vs h.1
+
+  module _ (all : List (List ℕ)) (vs : List V) where
+    pub values_begun : vs ≡ [] → ValuesSoFar all all vs
+    values_begun e = ([], refl, rw e tt)
+
+    -- no piece is left
+    pub values_all : (mark : ℕ) (before after : Option (List ℕ)) → Gives mark before None after → ValuesSoFar all (pieces_left mark before) vs → Each written all vs
+    values_all mark before after over s =
+        let same : all ≡ s.0 = s.1 ∙ ap (λ l. s.0 ++ l) (ap (pieces_left mark) over.0) ∙ append-nil s.0 in
+        rw same s.2
+
+    -- the next piece is read
+    module _ (mark : ℕ) (before after : Option (List ℕ)) (piece : List ℕ) (next : Gives mark before (Some piece) after) (s : ValuesSoFar all (pieces_left mark before) vs) where
+      cut : all ≡ s.0 ++ (piece ∷ pieces_left mark after)
+      cut = s.1 ∙ ap (λ l. s.0 ++ l) next
+
+      pub value_more : (to : ℕ) → to ≡ mark → (v : V) (ws : List V) → written piece v → ws ≡ vs ++ (v ∷ []) → ValuesSoFar all (pieces_left to after) ws
+      value_more to same v ws w e = (s.0 ++ (piece ∷ []), cut ∙ sym (append_assoc s.0 (piece ∷ []) (pieces_left mark after)) ∙ ap (λ m. (s.0 ++ (piece ∷ [])) ++ pieces_left m after) (sym same), rw e (each_push s.0 vs piece v s.2 w))
+
+      pub no_value : ((v : V) → written piece v → ⊥) → (ws : List V) → Each written all ws → ⊥
+      no_value none ws h = let d = each_at s.0 (pieces_left mark after) piece ws (rw cut at h) in none d.0 d.1
+
+-- the numbers of a release are values like others
+pub decimals_of : (ps : List (List ℕ)) (ns : List ℕ) → Each (λ p n. Decimal p n) ps ns → Decimals ps ns
+decimals_of [] [] h = h
+decimals_of [] (n ∷ ns) h = h
+decimals_of (p ∷ ps) [] h = h
+decimals_of (p ∷ ps) (n ∷ ns) h = (h.0, decimals_of ps ns h.1)
+
+pub of_decimals : (ps : List (List ℕ)) (ns : List ℕ) → Decimals ps ns → Each (λ p n. Decimal p n) ps ns
+of_decimals [] [] h = h
+of_decimals [] (n ∷ ns) h = h
+of_decimals (p ∷ ps) [] h = h
+of_decimals (p ∷ ps) (n ∷ ns) h = (h.0, of_decimals ps ns h.1)
