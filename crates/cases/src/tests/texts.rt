@@ -67,8 +67,8 @@ fn a_text_above_64_bytes_is_refused(rt: HostRuntime) {
 #[test]
 fn a_text_keeps_its_bytes(rt: HostRuntime) {
     assert!(rt; text(b"").as_bytes().is_empty());
-    assert!(rt; text(b"linux\x00").as_bytes() == b"linux\x00");
-    assert!(rt; text(&[200; 64]).as_bytes() == [200; 64]);
+    assert!(rt; text(b"linux\x00").as_bytes() == b"linux\x00".as_slice());
+    assert!(rt; text(&[200; 64]).as_bytes() == [200; 64].as_slice());
 }
 
 #[test]

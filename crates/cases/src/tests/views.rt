@@ -5,7 +5,6 @@ use diagrams::ids::NodeId;
 use diagrams::rows::{Node, ReleaseEdge, TextEdge};
 use diagrams::views::{EdgesMarkerTree, MarkerTreeKind, MarkerValueExtra};
 use std::process::Abort;
-use std::test::Fail;
 use values::bounds::Bound::Unbounded;
 use values::faults::Fault;
 
@@ -85,16 +84,15 @@ fn short<'a>(kind: &MarkerTreeKind<'a>) -> Short<'a> {
 }
 
 // Checks what an id shows, in short.
-fn shows(rt: &impl Abort, diagram: &Diagram, id: u32, expected: Short) -> Result<(), Fail> {
+fn shows(rt: &impl Abort, diagram: &Diagram, id: u32, expected: Short) {
     match diagram.kind(NodeId(id)) {
-        Err(_) => Err(Fail::new("the id is unknown")).note(id),
+        Err(_) => panic!(rt; "the id is unknown: {id}"),
         Ok(kind) => {
             let seen = short(&kind);
             assert_eq!(rt; seen.0, expected.0, "{}", id);
             assert_eq!(rt; seen.1, expected.1, "{}", id);
             assert_eq!(rt; seen.2, expected.2, "{}", id);
             assert_eq!(rt; seen.3, expected.3, "{}", id);
-            Ok(())
         }
     }
 }
@@ -108,38 +106,38 @@ fn known(diagram: &Diagram, id: u32) -> [usize; 4] {
 }
 
 #[test]
-fn even_ids_show_the_children_as_stored(rt: HostRuntime) -> Result<(), Fail> {
+fn even_ids_show_the_children_as_stored(rt: HostRuntime) {
     let nodes = nodes();
     let releases = release_rows();
     let texts = text_rows();
     let (diagram, answer) = Diagram::admit(&nodes, &releases, &texts);
     assert_eq!(rt; told(answer), [0; 4]);
-    shows(&rt, &diagram, 0, ("true", "", b"", [0; 2]))?;
-    shows(&rt, &diagram, 2, ("version", "python_version", b"", [0, 1]))?;
-    shows(&rt, &diagram, 4, ("string", "sys.platform", b"", [2, 3]))?;
-    shows(&rt, &diagram, 6, ("in", "platform_machine", b"x86", [4, 1]))?;
-    shows(&rt, &diagram, 8, ("contains", "sys_platform", b"", [0, 6]))?;
-    shows(&rt, &diagram, 10, ("extra", "", b"a-b", [1, 9]))?;
-    shows(&rt, &diagram, 12, ("arbitrary", "", b"A b", [11, 10]))
+    shows(&rt, &diagram, 0, ("true", "", b"", [0; 2]));
+    shows(&rt, &diagram, 2, ("version", "python_version", b"", [0, 1]));
+    shows(&rt, &diagram, 4, ("string", "sys.platform", b"", [2, 3]));
+    shows(&rt, &diagram, 6, ("in", "platform_machine", b"x86", [4, 1]));
+    shows(&rt, &diagram, 8, ("contains", "sys_platform", b"", [0, 6]));
+    shows(&rt, &diagram, 10, ("extra", "", b"a-b", [1, 9]));
+    shows(&rt, &diagram, 12, ("arbitrary", "", b"A b", [11, 10]));
 }
 
 #[test]
-fn odd_ids_show_the_children_turned(rt: HostRuntime) -> Result<(), Fail> {
+fn odd_ids_show_the_children_turned(rt: HostRuntime) {
     let nodes = nodes();
     let releases = release_rows();
     let texts = text_rows();
     let (diagram, _) = Diagram::admit(&nodes, &releases, &texts);
-    shows(&rt, &diagram, 1, ("false", "", b"", [0; 2]))?;
-    shows(&rt, &diagram, 3, ("version", "python_version", b"", [1, 0]))?;
-    shows(&rt, &diagram, 5, ("string", "sys.platform", b"", [3, 2]))?;
-    shows(&rt, &diagram, 7, ("in", "platform_machine", b"x86", [5, 0]))?;
-    shows(&rt, &diagram, 9, ("contains", "sys_platform", b"", [1, 7]))?;
-    shows(&rt, &diagram, 11, ("extra", "", b"a-b", [0, 8]))?;
-    shows(&rt, &diagram, 13, ("arbitrary", "", b"A b", [10, 11]))
+    shows(&rt, &diagram, 1, ("false", "", b"", [0; 2]));
+    shows(&rt, &diagram, 3, ("version", "python_version", b"", [1, 0]));
+    shows(&rt, &diagram, 5, ("string", "sys.platform", b"", [3, 2]));
+    shows(&rt, &diagram, 7, ("in", "platform_machine", b"x86", [5, 0]));
+    shows(&rt, &diagram, 9, ("contains", "sys_platform", b"", [1, 7]));
+    shows(&rt, &diagram, 11, ("extra", "", b"a-b", [0, 8]));
+    shows(&rt, &diagram, 13, ("arbitrary", "", b"A b", [10, 11]));
 }
 
 #[test]
-fn a_view_has_its_own_edges(rt: HostRuntime) -> Result<(), Fail> {
+fn a_view_has_its_own_edges(rt: HostRuntime) {
     let nodes = nodes();
     let releases = release_rows();
     let texts = text_rows();
@@ -152,10 +150,9 @@ fn a_view_has_its_own_edges(rt: HostRuntime) -> Result<(), Fail> {
             assert!(rt; view.edges[1].contains(&release(&[3, 8])));
             assert_eq!(rt; view.id.0, id);
         } else {
-            return Err(Fail::new("no release node")).note(id);
+            panic!(rt; "no release node: {id}");
         }
     }
-    Ok(())
 }
 
 #[test]
@@ -175,16 +172,15 @@ fn ids_past_the_end_are_unknown(rt: HostRuntime) {
 }
 
 #[test]
-fn a_refused_admission_knows_true_and_false_alone(rt: HostRuntime) -> Result<(), Fail> {
+fn a_refused_admission_knows_true_and_false_alone(rt: HostRuntime) {
     let nodes = [node_of(5, 0), node_of(6, 0)];
     let (diagram, answer) = Diagram::admit(&nodes, &[], &[]);
     assert_eq!(rt; told(answer), [5, 3, 1, 0]);
-    shows(&rt, &diagram, 0, ("true", "", b"", [0; 2]))?;
-    shows(&rt, &diagram, 1, ("false", "", b"", [0; 2]))?;
+    shows(&rt, &diagram, 0, ("true", "", b"", [0; 2]));
+    shows(&rt, &diagram, 1, ("false", "", b"", [0; 2]));
     for id in [2, 3, 4, 5, u32::MAX] {
         assert_eq!(rt; known(&diagram, id), [14, 4, 0, 0]);
     }
-    Ok(())
 }
 
 #[test]
