@@ -109,7 +109,7 @@ impl Show for MarkerValueExtra<'_> {
     fn show<W: fmt::Write>(&self, f: &mut fmt::Formatter<W>) -> fmt::Result {
         match self {
             MarkerValueExtra::Extra(name) => write!(f, "extra {}", Shown(*name)),
-            MarkerValueExtra::Arbitrary(text) => write!(f, "extra_text {}", Shown(*text)),
+            MarkerValueExtra::Arbitrary(text) => write!(f, "extra-text {}", Shown(*text)),
         }
     }
 }
