@@ -4,6 +4,5 @@ pub mod Words
 pub mod Reading
 pub mod Making
 pub mod Nodes
-pub mod Stops
 pub mod Rows
 pub mod Left

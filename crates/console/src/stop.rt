@@ -1,6 +1,6 @@
 // Why a command has no answer of its own.
 ghost use Rattle.std.specs.Prelude.{◌≡◌};
-ghost use Rattle.console.specs.Stops.{Failing};
+ghost use Rattle.console.specs.Rows.{Failing};
 ghost use Rattle.console.specs.declared.stop.Stop.TheVariants.{Refused as IsRefused};
 
 use std::alloc::{AllocError, AllocFailed};

@@ -20,11 +20,11 @@ use Rattle.diagrams.specs.Admission.{answer, first_refusal}
 use Rattle.diagrams.specs.Views.{View, always, never, version, string, in_literal, has_literal, extra, extra_text, known, view, SoundLines, SoundView}
 use Rattle.diagrams.proofs.Viewing.{view_shows}
 use Rattle.hosts.specs.Hosts.{Meaning, text_of}
-use Rattle.hosts.specs.Records.{among, names_refusal, unless_refused}
+use Rattle.hosts.specs.Records.{among, names_refusal}
 use Rattle.evaluation.specs.Walks.{walk}
 use Rattle.evaluation.specs.Evaluation.{Says, Evaluates}
 use Rattle.evaluation.specs.Evaluation as says
-use Rattle.evaluation.specs.Extras.{counts, may_say, on_result, extras_by, extras, Possible, at_true, at_version, at_string, in_high, in_low, has_high, has_low, extra_high, extra_low, text_low, includes, extras_answer, ExtrasLaw}
+use Rattle.evaluation.specs.Extras.{counts, may_say, on_result, extras_by, extras, Possible, at_true, at_version, at_string, in_high, in_low, has_high, has_low, extra_high, extra_low, text_low, includes, extras_answer, ExtrasLaw, unless_refused}
 use Rattle.evaluation.proofs.Saying.{evaluates, lacks_view}
 use Rattle.diagrams.proofs.Lawful.{sound}
 

@@ -18,7 +18,7 @@ use Rattle.ranges.specs.declared.edges.Edge.{Edge}
 use Rattle.diagrams.specs.Tables.{Table}
 use Rattle.diagrams.specs.Views.{View, always, never, version, string, in_literal, has_literal, extra, extra_text, known, view}
 use Rattle.hosts.specs.Hosts.{Meaning}
-use Rattle.hosts.specs.Records.{among, names_refusal, unless_refused}
+use Rattle.hosts.specs.Records.{among, names_refusal}
 use Rattle.evaluation.specs.Walks.{walk}
 
 -- an edge of a release node counts; where releases of Python are known, one of `python_version` counts only when one of
@@ -52,6 +52,10 @@ extras_by (suc f) names rs t id = on_result names rs (extras_by f names rs t) (v
 -- WHAT AN ID MAY SAY
 unfoldable pub extras : List Text → Option (List Release) → Table → ℕ → Bool
 extras names rs t id = extras_by (suc id) names rs t id
+
+abbrev pub unless_refused : Option Fault → Bool → Result Bool Fault
+unless_refused None b = Ok b
+unless_refused (Some f) b = Err f
 
 -- THE ANSWER: 14, then 16, then what the root may say
 abbrev pub extras_answer : List Text → Option (List Release) → Table → ℕ → Result Bool Fault

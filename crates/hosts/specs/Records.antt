@@ -94,9 +94,9 @@ texts_refusal f =
 abbrev pub names_refusal : List Text → Option Fault
 names_refusal names = option_map (λ i. NameNotNormal i) (first_place (λ t. not (normal_name (text_bytes t))) names)
 
-abbrev pub unless_refused : {X : Type 0} → Option Fault → X → Result X Fault
-unless_refused None x = Ok x
-unless_refused (Some f) x = Err f
+abbrev pub unless_refused : Option Fault → Meaning → Result Meaning Fault
+unless_refused None m = Ok m
+unless_refused (Some f) m = Err f
 
 -- THE ANSWER of making a record: it means just what it was made from
 abbrev pub made_record : Fields → List Text → Result Meaning Fault

@@ -26,6 +26,9 @@ pub row_alike : (xs ys zs : Row) → by_row xs ys ≡ Equal → by_row xs zs ≡
 unfolding by_row
 row_alike xs ys zs h = (lists_total nat_cmp_total).congr xs ys zs h
 
+rank_is : (x y : ℕ) (o : Ordering) → nat_cmp x y ≡ o → MatchOrdering o (x < y) (x ≡ y) (y < x)
+rank_is x y o e = subst (λ k. MatchOrdering k (x < y) (x ≡ y) (y < x)) e (ranks x y)
+
 pub cons_earlier : (x : ℕ) (xs ys : Row) → Earlier xs ys → Earlier (x ∷ xs) (x ∷ ys)
 cons_earlier x xs ys e = record {
   at = suc e.at;

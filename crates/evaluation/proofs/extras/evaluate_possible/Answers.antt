@@ -6,8 +6,8 @@ use Rattle.diagrams.specs.Held.{table_of}
 use Rattle.diagrams.specs.Tables.{Table}
 use Rattle.diagrams.specs.Views.{shown_kind}
 use Rattle.values.specs.declared.releases.Release.{Release}
-use Rattle.hosts.specs.Records.{names_refusal, unless_refused}
-use Rattle.evaluation.specs.Extras.{extras, extras_answer}
+use Rattle.hosts.specs.Records.{names_refusal}
+use Rattle.evaluation.specs.Extras.{extras, extras_answer, unless_refused}
 use Rattle.hosts.proofs.Recording.{passed}
 use Rattle.evaluation.proofs.Possibly.{extras_from, root_low, root_known, root_names, root_lacks, root_answer}
 use Rattle.evaluation.proofs.extras.evaluate_possible.Goals as goal
