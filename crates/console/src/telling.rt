@@ -3,7 +3,7 @@ use crate::show::Shown;
 use crate::stop::Stop;
 use diagrams::diagram::Diagram;
 use diagrams::ids::NodeId;
-use evaluation::walks::evaluate;
+use evaluation::evaluation::evaluate;
 use hosts::hosts::Host;
 use hosts::keeping::KeepingReporter;
 use hosts::warnings::{MarkerWarningKind, Report};

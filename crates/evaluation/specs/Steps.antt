@@ -7,8 +7,8 @@ use Rattle.values.specs.declared.texts.Text.{Text}
 use Rattle.hosts.specs.Hosts.{Meaning}
 use Rattle.hosts.specs.Records.{among}
 use Rattle.evaluation.specs.Walks.{Where, ends, goes}
-use Rattle.evaluation.specs.declared.walks.Step.{Step}
-use Rattle.evaluation.specs.declared.walks.Step.TheVariants.{Ends, Goes}
+use Rattle.evaluation.specs.declared.evaluation.Step.{Step}
+use Rattle.evaluation.specs.declared.evaluation.Step.TheVariants.{Ends, Goes}
 
 abbrev pub shown_step : Step → Where
 shown_step (Ends b) = ends b

@@ -1,6 +1,6 @@
 // The evaluations of a diagram: on a host, and with extras alone.
 #![tactic(auto)]
 
+pub mod evaluation;
 pub mod extras;
 pub mod substrings;
-pub mod walks;

@@ -3,7 +3,7 @@ use Rattle.values.specs.Texts.{text_bytes}
 use Rattle.diagrams.specs.Views.{seen}
 use Rattle.hosts.specs.Tallies.{reported}
 use Rattle.evaluation.specs.Walks.{chosen, examined}
-use Rattle.evaluation.proofs.walks.choose_string.Given as goal
+use Rattle.evaluation.proofs.evaluation.choose_string.Given as goal
 
 -- the edges that are left decide, and what they report is still to come
 abbrev pub invariant-loop-place : goal.invariant-loop-place

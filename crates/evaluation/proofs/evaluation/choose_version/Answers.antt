@@ -6,7 +6,7 @@ use Rattle.ranges.specs.declared.edges.Edge.{Edge}
 use Rattle.diagrams.specs.Views.{seen}
 use Rattle.evaluation.specs.Walks.{chosen}
 use Rattle.evaluation.proofs.Walking.{chosen_turn, chosen_end}
-use Rattle.evaluation.proofs.walks.choose_version.Goals as goal
+use Rattle.evaluation.proofs.evaluation.choose_version.Goals as goal
 
 -- what the edges decide at the host's own release
 at-host : (id : ℕ) (es : List (Edge Release)) (r h : Release) (c : ℕ) → r ≡ h → c ≡ chosen release_row (release_row r) (map (seen id) es) → c ≡ chosen release_row (release_row h) (map (seen id) es)

@@ -2,7 +2,7 @@ use Rattle.std.proofs.Common.{◌≡◌}
 use Rattle.diagrams.specs.Held.{table_of}
 use Rattle.hosts.specs.Tallies.{reported}
 use Rattle.evaluation.specs.Walks.{walk}
-use Rattle.evaluation.proofs.walks.evaluate.Given as goal
+use Rattle.evaluation.proofs.evaluation.evaluate.Given as goal
 
 -- the walk from here answers and reports what is left of the walk from the root
 abbrev pub invariant-loop-kind : goal.invariant-loop-kind

@@ -2,7 +2,7 @@ use Rattle.std.proofs.Common.{◌≡◌, map, drop}
 use Rattle.values.specs.Releases.{release_row}
 use Rattle.diagrams.specs.Views.{seen}
 use Rattle.evaluation.specs.Walks.{chosen}
-use Rattle.evaluation.proofs.walks.choose_version.Given as goal
+use Rattle.evaluation.proofs.evaluation.choose_version.Given as goal
 
 -- the edges that are left decide
 abbrev pub invariant-loop-edge : goal.invariant-loop-edge

@@ -9,7 +9,7 @@ use Rattle.diagrams.specs.Views.{seen}
 use Rattle.hosts.specs.Tallies.{Tally, reported}
 use Rattle.evaluation.specs.Walks.{chosen, examined}
 use Rattle.evaluation.proofs.Walking.{chosen_turn, chosen_end, examined_end, told_turn}
-use Rattle.evaluation.proofs.walks.choose_string.Goals as goal
+use Rattle.evaluation.proofs.evaluation.choose_string.Goals as goal
 
 -- what the edges decide and report at the host's own text
 child-at-host : (id : ℕ) (es : List (Edge Text)) (v h : Row) (c : ℕ) → v ≡ h → c ≡ chosen text_bytes v (map (seen id) es) → c ≡ chosen text_bytes h (map (seen id) es)

@@ -9,7 +9,7 @@ use Rattle.hosts.specs.Tallies.{Tally, reported}
 use Rattle.evaluation.specs.Walks.{Walk, walk}
 use Rattle.evaluation.proofs.Saying.{evaluates}
 use Rattle.evaluation.proofs.Walking.{lead_below, answer_more, reports_more, answer_end, reports_end, walk_lacks}
-use Rattle.evaluation.proofs.walks.evaluate.Goals as goal
+use Rattle.evaluation.proofs.evaluation.evaluate.Goals as goal
 
 pub returns-in_err-kind : goal.returns-in_err-kind
 returns-in_err-kind g c =
