@@ -1,9 +1,9 @@
 -- Bytes are cut at the first mark, and so piece by piece.
-use Rattle.std.proofs.Common.{◌≡◌, ℕ, suc, ◌+◌, ◌-◌, ◌<◌, ◌≤◌, true, false, eqb, List, [], ◌∷◌, ◌++◌, length, get_or, take, drop, Some, None, Option, sym, refl, ◌∙◌, inl, inr, arith, eq-eqb, ne_eqb}
+use Rattle.std.proofs.Common.{◌≡◌, ℕ, suc, ◌+◌, ◌-◌, ◌<◌, ◌≤◌, false, eqb, List, [], ◌∷◌, ◌++◌, length, get_or, take, drop, Some, None, Option, sym, refl, ◌∙◌, inl, inr, arith, eq-eqb, ne_eqb}
 use Rattle.std.specs.Str.Iter.{LacksByte}
 use Rattle.std.proofs.lemmas.Bool.{cases_Bool}
 use Rattle.std.proofs.lemmas.List.{take-append-drop, drop_more, take_rest, get_or-take, length-take-le, length-drop}
-use Rattle.console.specs.Cuts.{Cut, onto_first, pieces, pieces_left, unread}
+use Rattle.console.specs.Cuts.{Cut, onto_first, pieces, pieces_left}
 
 module _ (mark : ℕ) (bytes : List ℕ) (i : ℕ) (h : i < length bytes) where
   pub cut_here : get_or bytes i 0 ≡ mark → ((k : ℕ) → k < i → get_or bytes k 0 ≡ mark → ⊥) → Cut mark bytes (take (i - 0) bytes) (Some (take (length bytes - (i + 1)) (drop (i + 1) bytes)))

@@ -1,10 +1,7 @@
 -- Decimal digits are read one at a time.
-use Rattle.std.proofs.Common.{◌≡◌, ℕ, suc, ◌+◌, ◌*◌, ◌^◌, ◌<◌, ◌≤◌, List, [], ◌∷◌, ◌++◌, length, get_or, drop, Some, Option, sym, refl, ap, ◌∙◌, subst, arith, drop_of_length-le, drop-cons}
+use Rattle.std.proofs.Common.{◌≡◌, ℕ, suc, ◌+◌, ◌*◌, ◌^◌, ◌<◌, ◌≤◌, List, [], ◌∷◌, length, get_or, drop, refl, ap, ◌∙◌, subst, arith, drop_of_length-le, drop-cons}
 use Rattle.std.specs.Str.Parse.{AllDigits, IsNumeral, digits_value_after, digits_value}
 use Rattle.std.specs.Char.{digit_value}
-use Rattle.std.proofs.lemmas.List.{append-nil, append_assoc}
-use Rattle.console.specs.Cuts.{Gives, pieces_left}
-use Rattle.console.specs.Spelling.{Decimal, Decimals}
 
 -- of the digits `all`, those before `rest` write n
 pub record SoFar (all rest : List ℕ) (n : ℕ) : Type 0 where

@@ -1,5 +1,5 @@
 -- What a reader answers where another one refuses.
-use Rattle.std.proofs.Common.{◌≡◌, ℕ, List, [], ◌∷◌, Ok, Err, Result, sym, subst}
+use Rattle.std.proofs.Common.{◌≡◌, ℕ, List, [], ◌∷◌, Err, Result, sym, subst}
 use Rattle.console.specs.Reading.{Reads}
 use Rattle.console.specs.Words.{Next}
 use Rattle.console.specs.declared.words.Unread.{Unread}

@@ -1,5 +1,5 @@
 -- The words of a line, and what the next one writes.
-use Rattle.std.specs.Prelude.{◌≡◌, ℕ, ◌≤◌, List, [], ◌∷◌}
+use Rattle.std.specs.Prelude.{ℕ, ◌≤◌, List, [], ◌∷◌}
 use Rattle.std.specs.Option.{option_map}
 use Rattle.console.specs.Cuts.{pieces_left}
 use Rattle.console.specs.Spelling.{Decimal}

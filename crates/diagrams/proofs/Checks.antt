@@ -1,18 +1,17 @@
 -- One turn of each check's loop, and how checks follow one another.
-use Rattle.std.proofs.Common.{◌≡◌, ℕ, zero, suc, ◌+◌, ◌-◌, ◌*◌, ◌/◌, ◌<◌, ◌≤◌, Bool, true, false, cond, ◌&&◌, ◌||◌, eqb, ltb, leb, ◌⊎◌, List, [], ◌∷◌, map, length, get_or, take, drop, is_some, Some, None, Ok, Err, Option, Result, sym, refl, ap, ◌∙◌, subst, inl, inr, arith}
+use Rattle.std.proofs.Common.{◌≡◌, ℕ, ◌+◌, ◌<◌, ◌≤◌, Bool, true, false, cond, ◌&&◌, eqb, ltb, List, [], ◌∷◌, length, get_or, drop, is_some, Some, None, Ok, Err, Option, sym, refl, ap, ◌∙◌, arith}
 use Rattle.std.specs.Option.{option_or, option_map}
 use Rattle.std.proofs.lemmas.List.{at_drop_more, at_drop_all}
 use Rattle.std.proofs.lemmas.Bool.Decides.{nat_tests}
-use Rattle.values.specs.Lists.{all, first_from, first_place}
+use Rattle.values.specs.Lists.{all, first_from}
 use Rattle.values.specs.declared.faults.Fault.{Fault}
 use Rattle.values.specs.declared.faults.Fault.TheVariants.{TooManyNodes, UnknownKind, ChildTooLarge, OneChild}
 use Rattle.values.specs.declared.releases.Release.{Release}
 use Rattle.values.specs.declared.texts.Text.{Text}
-use Rattle.values.proofs.Firsts.{first_past}
 use Rattle.ranges.specs.declared.edges.Edge.{Edge}
 use Rattle.ranges.proofs.Steps.{at_read}
 use Rattle.diagrams.specs.Tables.{Table, child_ids, no_node}
-use Rattle.diagrams.specs.Admission.{answer, too_large, child_refusal, all_same, same_refusal, name_refusal, branches_refusal, node_refusal, nodes_refusal, most_nodes, first_refusal}
+use Rattle.diagrams.specs.Admission.{answer, too_large, child_refusal, same_refusal, name_refusal, branches_refusal, node_refusal, nodes_refusal, most_nodes, first_refusal}
 use Rattle.diagrams.specs.declared.rows.Node.{Node}
 
 -- the first child that passes, looked for among the edges

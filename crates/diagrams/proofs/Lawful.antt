@@ -1,22 +1,19 @@
 -- The law of admission: the rules of a node one by one, then of all nodes.
-use Rattle.std.proofs.Common.{◌≡◌, ℕ, zero, suc, ◌+◌, ◌-◌, ◌*◌, ◌<◌, ◌≤◌, Bool, true, false, cond, not, ◌&&◌, ◌||◌, eqb, ltb, leb, ◌⊎◌, List, [], ◌∷◌, map, length, get_or, take, drop, is_some, Some, None, Option, sym, refl, ap, ◌∙◌, subst, inl, inr, le_of_suc-le-suc, not-suc-le-zero, arith}
-use Rattle.std.specs.Option.{option_map, option_or}
+use Rattle.std.proofs.Common.{◌≡◌, ℕ, zero, suc, ◌+◌, ◌*◌, ◌<◌, ◌≤◌, Bool, true, false, ◌||◌, eqb, ltb, leb, ◌⊎◌, List, [], ◌∷◌, length, get_or, is_some, Some, None, Option, sym, refl, ap, ◌∙◌, subst, inl, inr, le_of_suc-le-suc, not-suc-le-zero, arith}
+use Rattle.std.specs.Option.{option_or}
 use Rattle.std.specs.List.{slice_get}
-use Rattle.std.proofs.lemmas.List.{length-map, length-take, length-drop, get_or-map}
-use Rattle.std.proofs.lemmas.Option.{slice_get-get_or, slice_get_past}
+use Rattle.std.proofs.lemmas.List.{length-take, length-drop}
 use Rattle.std.proofs.lemmas.Bool.{cases_lt, cases_Bool, cases_eq, ltb-true, ltb-false, lt-ltb, le-ltb, leb-true, leb-false, eqb-true, eqb-false, eq-eqb, or_cases, or_parts, and_parts, and_from, both_ways, not-false}
 use Rattle.std.proofs.lemmas.Bool.Decides.{nat_tests}
 use Rattle.values.specs.Lists.{any, all, first_place}
 use Rattle.values.specs.Rows.{Row}
 use Rattle.values.specs.Releases.{release_row}
 use Rattle.values.specs.Texts.{text_bytes}
-use Rattle.values.specs.Names.{normal_name, Normal}
+use Rattle.values.specs.Names.{normal_name}
 use Rattle.values.specs.Keys.{version_keys, version_key_of, string_keys, string_key_of}
 use Rattle.values.specs.Faults.{refusal}
 use Rattle.values.specs.declared.faults.Fault.{Fault}
 use Rattle.values.specs.declared.faults.Fault.TheVariants.{ReleaseCount, NumberTooLarge, TextTooLong, TooManyNodes, UnknownKind, KeyOutOfRange, ExtraNotNormal, EdgeCount, EdgesPastEnd, ChildTooLarge, EmptyRange, Uncovered, OneChild, UnknownId, HostTextTooLong, NameNotNormal, PathFull, ClausesFull}
-use Rattle.values.specs.declared.releases.Release.{Release}
-use Rattle.values.specs.declared.texts.Text.{Text}
 use Rattle.values.proofs.Firsts.{some_none, some_same, first_none, first_some}
 use Rattle.values.proofs.Naming.{normal_says}
 use Rattle.ranges.specs.Bounds.{empty_edge}
@@ -26,10 +23,10 @@ use Rattle.ranges.proofs.Gaps as gaps
 use Rattle.ranges.proofs.Parting.{parted}
 use Rattle.diagrams.specs.Tables.{Table, own, child_ids, no_node}
 use Rattle.diagrams.specs.Admission.{most_nodes, least_edges, most_edges, key_refusal, name_refusal, wrong_edges, too_large, child_refusal, range_refusal, cover_refusal, all_same, same_refusal, own_refusal, ranged_refusal, branches_refusal, node_refusal, nodes_refusal, first_refusal}
-use Rattle.diagrams.specs.Rules.{children, AllEqual, EmptyAt, Breaks, Broken, too_many, at_node, Ahead, First, Refuses, SoundEdges, SoundNode, Sound}
+use Rattle.diagrams.specs.Rules.{children, AllEqual, EmptyAt, Breaks, Broken, too_many, at_node, First, Refuses, SoundEdges, SoundNode, Sound}
 use Rattle.diagrams.specs.declared.rows.Node.{Node}
 use Rattle.diagrams.proofs.Checks.{few, many}
-use Rattle.diagrams.proofs.Judge.{number, second, only_5, only_6, only_7, only_8, only_9, only_10, only_11, only_12, only_13, Judged, later, then, one, nothing, alone, flag, placed, by_test, reworded}
+use Rattle.diagrams.proofs.Judge.{number, second, only_5, only_6, only_7, only_8, only_9, only_10, only_11, only_12, only_13, Judged, later, then, one, nothing, alone, flag, placed, by_test}
 
 -- ---- lists of child ids
 

@@ -1,9 +1,9 @@
 -- Ids and their negations.
-use Rattle.std.proofs.Common.{◌≡◌, ℕ, ◌+◌, ◌-◌, ◌*◌, ◌/◌, ◌%◌, ◌<◌, ◌≤◌, Bool, true, false, cond, eqb, leb, sym, refl, ap, ◌∙◌, inl, inr, arith}
+use Rattle.std.proofs.Common.{◌≡◌, ℕ, ◌+◌, ◌*◌, ◌%◌, refl, inl, inr, arith}
 use lib.Bits.{bit_and, bit_xor, and_mask, xor_zero_r, xor_add_and}
 use Rattle.std.proofs.lemmas.Bool.{cases_eq}
 use Rattle.std.proofs.lemmas.Bool.Decides.{nat_tests}
-use Rattle.diagrams.specs.Ids.{odd, opposite, turned, Negations}
+use Rattle.diagrams.specs.Ids.{opposite, turned, Negations}
 
 -- the lowest bit turned under an odd id
 pub turn_is : (id c : ℕ) → bit_xor c (bit_and id 1) ≡ turned id c

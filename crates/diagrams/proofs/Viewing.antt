@@ -1,15 +1,14 @@
 -- What an admitted diagram shows is sound.
-use Rattle.std.proofs.Common.{◌≡◌, ℕ, zero, suc, ◌+◌, ◌-◌, ◌*◌, ◌/◌, ◌<◌, ◌≤◌, Bool, true, false, cond, ◌&&◌, ◌||◌, eqb, leb, ◌⊎◌, List, [], ◌∷◌, map, length, get_or, is_some, is_ok, Some, None, Ok, Err, Option, Result, sym, refl, ap, ◌∙◌, subst, inl, inr, arith}
+use Rattle.std.proofs.Common.{◌≡◌, ℕ, ◌+◌, ◌-◌, ◌*◌, ◌/◌, ◌<◌, ◌≤◌, true, false, ◌&&◌, ◌||◌, eqb, List, [], ◌∷◌, map, length, get_or, is_some, is_ok, Some, None, Ok, Option, sym, refl, ap, ◌∙◌, subst, inl, inr, arith}
 use Rattle.std.specs.Option.{option_map, ok_or as okOr}
 use Rattle.std.proofs.lemmas.List.{length-map, get_or-map}
-use Rattle.std.proofs.lemmas.Bool.{cases_Bool, cases_lt, eqb-true, eqb-false, leb-true, leb-false, eq-eqb, ne_eqb, le-leb, lt-leb, lt-ltb}
+use Rattle.std.proofs.lemmas.Bool.{cases_Bool, eqb-true, eqb-false, leb-true, eq-eqb, le-leb, lt-ltb}
 use Rattle.std.proofs.lemmas.Bool.Decides.{nat_tests}
 use Rattle.values.specs.Lists.{any}
 use Rattle.values.specs.Rows.{Row}
 use Rattle.values.specs.Releases.{release_row}
 use Rattle.values.specs.Texts.{text_bytes}
 use Rattle.values.specs.Keys.{version_keys, version_key_of, string_keys, string_key_of}
-use Rattle.values.specs.declared.faults.Fault.{Fault}
 use Rattle.values.specs.declared.faults.Fault.TheVariants.{UnknownId}
 use Rattle.values.specs.declared.bounds.Bound.{Bound}
 use Rattle.values.proofs.Firsts.{some_none, some_same}
@@ -20,7 +19,7 @@ use Rattle.ranges.proofs.Parting.{parted}
 use Rattle.diagrams.specs.Tables.{Table, own, child_ids, no_node}
 use Rattle.diagrams.specs.Ids.{turned}
 use Rattle.diagrams.specs.Admission.{first_refusal}
-use Rattle.diagrams.specs.Rules.{children, SoundEdges, SoundNode, Sound}
+use Rattle.diagrams.specs.Rules.{SoundEdges, SoundNode}
 use Rattle.diagrams.specs.Views.{View, always, never, version, string, in_literal, has_literal, extra, extra_text, seen, branch_view, node_view, known, seen_at, view, SoundLines, SoundView, Shows}
 use Rattle.diagrams.specs.declared.rows.Node.{Node}
 use Rattle.diagrams.proofs.Lawful.{nth_some, sound, release_ids, text_ids, branch_ids}

@@ -1,5 +1,5 @@
 -- Ids: 0 is TRUE, 1 is FALSE, 2(i + 1) is the node at place i, and an odd id negates the even one below it.
-use Rattle.std.specs.Prelude.{◌≡◌, ℕ, ◌+◌, ◌-◌, ◌*◌, ◌/◌, ◌%◌, Bool, cond, not, ◌==◌}
+use Rattle.std.specs.Prelude.{◌≡◌, ℕ, ◌+◌, ◌-◌, ◌*◌, ◌%◌, Bool, cond, ◌==◌}
 
 abbrev pub odd : ℕ → Bool
 odd id = id % 2 == 1

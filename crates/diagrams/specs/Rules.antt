@@ -1,5 +1,5 @@
 -- What admission means: the rules of a table, which refusal comes first, and what an admitted table is.
-use Rattle.std.specs.Prelude.{◌≡◌, ℕ, ◌+◌, ◌*◌, ◌<◌, ◌≤◌, Bool, true, false, cond, ◌⊎◌, List, [], ◌∷◌, length, Some, None, Option, nat_le, slice_index, slice_index_or}
+use Rattle.std.specs.Prelude.{◌≡◌, ℕ, ◌+◌, ◌*◌, ◌<◌, ◌≤◌, true, false, cond, ◌⊎◌, List, [], ◌∷◌, length, Some, None, nat_le, slice_index, slice_index_or}
 use Rattle.values.specs.Lists.{any, times}
 use Rattle.values.specs.Rows.{Row}
 use Rattle.values.specs.Releases.{release_row}
@@ -8,8 +8,6 @@ use Rattle.values.specs.Names.{Normal}
 use Rattle.values.specs.Faults.{refusal}
 use Rattle.values.specs.declared.faults.Fault.{Fault}
 use Rattle.values.specs.declared.faults.Fault.TheVariants.{ReleaseCount, NumberTooLarge, TextTooLong, TooManyNodes, UnknownKind, KeyOutOfRange, ExtraNotNormal, EdgeCount, EdgesPastEnd, ChildTooLarge, EmptyRange, Uncovered, OneChild, UnknownId, HostTextTooLong, NameNotNormal, PathFull, ClausesFull}
-use Rattle.values.specs.declared.releases.Release.{Release}
-use Rattle.values.specs.declared.texts.Text.{Text}
 use Rattle.ranges.specs.Bounds.{empty_edge, lies}
 use Rattle.ranges.specs.Cover.{no_edge, Gap, cover}
 use Rattle.ranges.specs.declared.edges.Edge.{Edge}

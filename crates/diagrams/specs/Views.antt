@@ -1,5 +1,5 @@
 -- What an id shows.
-use Rattle.std.specs.Prelude.{◌≡◌, ℕ, ◌+◌, ◌-◌, ◌*◌, ◌/◌, ◌<◌, Bool, true, false, cond, List, map, length, get_or, is_ok, Some, None, Ok, Err, Option, Result, ◌==◌, nat_le, slice_index_or}
+use Rattle.std.specs.Prelude.{◌≡◌, ℕ, ◌-◌, ◌/◌, ◌<◌, Bool, true, false, cond, List, map, length, get_or, is_ok, Some, None, Ok, Err, Option, Result, ◌==◌, nat_le, slice_index_or}
 use Rattle.std.specs.Option.{option_map, ok_or}
 use Rattle.values.specs.Lists.{any, times}
 use Rattle.values.specs.Rows.{Row}
@@ -20,7 +20,6 @@ use Rattle.diagrams.specs.Ids.{turned}
 use Rattle.diagrams.specs.declared.rows.Node.{Node}
 use Rattle.diagrams.specs.declared.views.MarkerTreeKind.{MarkerTreeKind}
 use Rattle.diagrams.specs.declared.views.MarkerTreeKind.TheVariants.{True, False, Version, String, In, Contains, Extra}
-use Rattle.diagrams.specs.declared.views.EdgesMarkerTree.{EdgesMarkerTree}
 use Rattle.diagrams.specs.declared.views.MarkerValueExtra.{MarkerValueExtra}
 use Rattle.diagrams.specs.declared.views.MarkerValueExtra.TheVariants as name
 

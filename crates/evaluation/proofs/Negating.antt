@@ -1,7 +1,7 @@
 -- Negating an id negates its answer.
-use Rattle.std.proofs.Common.{◌≡◌, ℕ, zero, suc, ◌+◌, ◌-◌, ◌*◌, ◌/◌, ◌%◌, ◌<◌, ◌≤◌, Bool, true, false, cond, not, eqb, leb, ◌⊎◌, List, [], ◌∷◌, ◌++◌, map, length, get_or, is_some, Some, None, Ok, Err, Option, Result, sym, refl, ap, ◌∙◌, subst, inl, inr, not-suc-le-zero, arith}
+use Rattle.std.proofs.Common.{◌≡◌, ℕ, zero, suc, ◌-◌, ◌/◌, ◌<◌, Bool, true, false, cond, not, eqb, leb, List, [], ◌∷◌, ◌++◌, map, length, get_or, is_some, Some, None, Ok, Err, Option, Result, sym, refl, ap, ◌∙◌, inl, inr, not-suc-le-zero, arith}
 use Rattle.std.specs.Option.{option_map, ok_or}
-use Rattle.std.proofs.lemmas.Bool.{cases_Bool, cases_eq, eqb-true, eqb-false, ne_eqb, eq-eqb}
+use Rattle.std.proofs.lemmas.Bool.{cases_Bool, cases_eq, ne_eqb}
 use Rattle.std.proofs.lemmas.Bool.Decides.{nat_tests}
 use Rattle.values.specs.Lists.{times}
 use Rattle.values.specs.Rows.{Row}
@@ -15,16 +15,15 @@ use Rattle.values.specs.declared.texts.Text.{Text}
 use Rattle.ranges.specs.Bounds.{lies}
 use Rattle.ranges.specs.declared.edges.Edge.{Edge}
 use Rattle.diagrams.specs.Tables.{Table, own, no_node}
-use Rattle.diagrams.specs.Ids.{odd, opposite, turned}
+use Rattle.diagrams.specs.Ids.{opposite, turned}
 use Rattle.diagrams.specs.Admission.{first_refusal}
-use Rattle.diagrams.specs.Views.{View, always, never, version, string, in_literal, has_literal, extra, extra_text, seen, branch_view, node_view, known, seen_at, view, SoundLines, SoundView}
+use Rattle.diagrams.specs.Views.{View, always, never, version, string, in_literal, has_literal, extra, extra_text, seen, branch_view, node_view, seen_at, view, SoundView}
 use Rattle.diagrams.specs.declared.rows.Node.{Node}
 use Rattle.diagrams.proofs.Viewing.{view_shows}
 use Rattle.hosts.specs.Hosts.{Meaning, text_of}
 use Rattle.evaluation.specs.Substrings.{contained}
 use Rattle.evaluation.specs.Walks.{edge_reports, examined, chosen, Where, ends, goes, lead, told, Walk, walk_of, after, walk}
 use Rattle.evaluation.specs.Evaluation.{negated}
-use Rattle.hosts.specs.declared.warnings.Report.{Report}
 use Rattle.evaluation.proofs.Walking.{lead_below, walk_goes, walk_ends, walk_lacks}
 
 -- a view with every child negated

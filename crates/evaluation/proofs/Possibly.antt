@@ -1,9 +1,9 @@
 -- What an id may say, one level at a time, and the law of the two evaluations of extras.
-use Rattle.std.proofs.Common.{◌≡◌, ℕ, zero, suc, ◌+◌, ◌/◌, ◌<◌, ◌≤◌, Bool, true, false, cond, ◌&&◌, ◌||◌, ◌⊎◌, List, [], ◌∷◌, length, get_or, is_some, is_ok, Some, None, Ok, Err, Option, Result, Ordering, Less, Equal, Greater, sym, refl, ap, ◌∙◌, subst, inl, inr, le_of_suc-le-suc, not-suc-le-zero, arith}
+use Rattle.std.proofs.Common.{◌≡◌, ℕ, zero, suc, ◌/◌, ◌<◌, ◌≤◌, Bool, true, false, cond, ◌&&◌, ◌||◌, List, [], ◌∷◌, length, get_or, is_some, is_ok, Some, None, Ok, Err, Option, Result, Ordering, Less, Equal, Greater, sym, refl, ap, ◌∙◌, inl, inr, le_of_suc-le-suc, not-suc-le-zero, arith}
 use Rattle.std.specs.Ordering.{is_eq}
 use Rattle.std.proofs.lemmas.Bool.{cases_Bool, and_parts, and_from, or_cases, or_left, or_right, leb-true, true≢false}
 use Rattle.values.specs.Lists.{any}
-use Rattle.values.specs.Rows.{Row, by_row}
+use Rattle.values.specs.Rows.{by_row}
 use Rattle.values.specs.Releases.{release_row}
 use Rattle.values.specs.Texts.{text_bytes}
 use Rattle.values.specs.declared.faults.Fault.{Fault}
@@ -17,9 +17,9 @@ use Rattle.ranges.specs.Cover.{no_edge}
 use Rattle.ranges.specs.declared.edges.Edge.{Edge}
 use Rattle.diagrams.specs.Tables.{Table}
 use Rattle.diagrams.specs.Admission.{answer, first_refusal}
-use Rattle.diagrams.specs.Views.{View, always, never, version, string, in_literal, has_literal, extra, extra_text, known, view, SoundLines, SoundView}
+use Rattle.diagrams.specs.Views.{View, always, never, version, string, in_literal, has_literal, extra, extra_text, known, view, SoundView}
 use Rattle.diagrams.proofs.Viewing.{view_shows}
-use Rattle.hosts.specs.Hosts.{Meaning, text_of}
+use Rattle.hosts.specs.Hosts.{Meaning}
 use Rattle.hosts.specs.Records.{among, names_refusal}
 use Rattle.evaluation.specs.Walks.{walk}
 use Rattle.evaluation.specs.Evaluation.{Says, Evaluates}

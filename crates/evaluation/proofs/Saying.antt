@@ -1,7 +1,7 @@
 -- What an id says is what the walk from it answers.
-use Rattle.std.proofs.Common.{◌≡◌, ℕ, zero, suc, ◌+◌, ◌/◌, ◌<◌, ◌≤◌, Bool, true, false, cond, leb, ◌⊎◌, List, [], ◌∷◌, length, get_or, is_some, is_ok, Some, None, Ok, Err, Decides, Option, Result, sym, refl, ap, ◌∙◌, subst, inl, inr, le_of_suc-le-suc, not-suc-le-zero, arith}
+use Rattle.std.proofs.Common.{◌≡◌, ℕ, zero, suc, ◌/◌, ◌<◌, Bool, true, false, cond, List, [], ◌∷◌, length, get_or, is_some, is_ok, Some, None, Ok, Err, Decides, Option, Result, sym, refl, ap, ◌∙◌, inl, inr, le_of_suc-le-suc, not-suc-le-zero, arith}
 use Rattle.std.specs.Option.{ok_or}
-use Rattle.std.proofs.lemmas.Bool.{cases_Bool, both_ways, true≢false, leb-true, le-leb}
+use Rattle.std.proofs.lemmas.Bool.{cases_Bool, true≢false, leb-true, le-leb}
 use Rattle.std.proofs.lemmas.Bool.Decides.{not_from_Decides}
 use Rattle.values.specs.Lists.{times}
 use Rattle.values.specs.Rows.{Row}
@@ -14,14 +14,14 @@ use Rattle.ranges.specs.Cover.{no_edge}
 use Rattle.ranges.specs.declared.edges.Edge.{Edge}
 use Rattle.diagrams.specs.Tables.{Table}
 use Rattle.diagrams.specs.Admission.{first_refusal}
-use Rattle.diagrams.specs.Views.{View, always, never, version, string, in_literal, has_literal, extra, extra_text, known, seen_at, view, SoundLines, SoundView}
+use Rattle.diagrams.specs.Views.{View, always, never, version, string, in_literal, has_literal, extra, extra_text, known, seen_at, view, SoundView}
 use Rattle.diagrams.proofs.Viewing.{view_shows}
 use Rattle.hosts.specs.Hosts.{Meaning, text_of}
 use Rattle.evaluation.specs.Substrings.{contained, Within}
-use Rattle.evaluation.specs.Walks.{chosen, Where, ends, goes, lead, Walk, walk}
+use Rattle.evaluation.specs.Walks.{chosen, goes, lead, Walk, walk}
 use Rattle.evaluation.specs.Evaluation.{Says, at_true, at_false, at_version, at_string, in_high, in_low, has_high, has_low, extra_high, extra_low, text_low, Evaluates}
 use Rattle.evaluation.proofs.Finding.{contained_says}
-use Rattle.evaluation.proofs.Walking.{lead_below, answer_more, answer_end, walk_lacks}
+use Rattle.evaluation.proofs.Walking.{answer_more, answer_end, walk_lacks}
 use Rattle.evaluation.proofs.Negating.{walk_opposite}
 
 -- ---- the edge that contains a value

@@ -1,5 +1,5 @@
 -- The walk, one view at a time, with no count of steps.
-use Rattle.std.proofs.Common.{◌≡◌, ℕ, zero, suc, ◌+◌, ◌<◌, ◌≤◌, Bool, true, false, cond, ◌⊎◌, List, [], ◌∷◌, ◌++◌, map, length, get_or, drop, is_some, Ok, Err, Result, sym, refl, ap, ◌∙◌, subst, inl, inr, not-suc-le-zero, arith}
+use Rattle.std.proofs.Common.{◌≡◌, ℕ, zero, suc, ◌+◌, ◌<◌, ◌≤◌, Bool, true, false, cond, List, [], ◌∷◌, ◌++◌, map, length, get_or, drop, is_some, Ok, Err, Result, sym, refl, ap, ◌∙◌, subst, inl, inr, not-suc-le-zero, arith}
 use Rattle.std.proofs.lemmas.List.{at_drop_more, at_drop_all, append-nil}
 use Rattle.std.proofs.lemmas.Bool.{cases_Bool}
 use Rattle.values.specs.Lists.{times}
@@ -15,13 +15,12 @@ use Rattle.ranges.specs.declared.edges.Edge.{Edge}
 use Rattle.diagrams.specs.Tables.{Table}
 use Rattle.diagrams.specs.Ids.{turned}
 use Rattle.diagrams.specs.Admission.{first_refusal}
-use Rattle.diagrams.specs.Views.{View, always, never, version, string, in_literal, has_literal, extra, extra_text, view, seen, SoundLines, SoundView}
+use Rattle.diagrams.specs.Views.{View, always, never, version, string, in_literal, has_literal, extra, extra_text, view, seen, SoundView}
 use Rattle.diagrams.proofs.Viewing.{view_shows}
 use Rattle.hosts.specs.Hosts.{Meaning, text_of}
 use Rattle.evaluation.specs.Substrings.{contained}
 use Rattle.hosts.specs.Tallies.{Tally, reported}
 use Rattle.evaluation.specs.Walks.{edge_reports, examined, chosen, Where, ends, goes, lead, told, Walk, walk_of, after, on_where, on_view, walk_by, walk}
-use Rattle.hosts.specs.declared.warnings.Report.{Report}
 use Rattle.hosts.proofs.Noting.{reported-append}
 
 -- ---- one edge

@@ -13,10 +13,10 @@ use Rattle.ranges.specs.Cover.{no_edge}
 use Rattle.ranges.specs.declared.edges.Edge.{Edge}
 use Rattle.diagrams.specs.Tables.{Table}
 use Rattle.diagrams.specs.Ids.{opposite}
-use Rattle.diagrams.specs.Views.{View, always, never, version, string, in_literal, has_literal, extra, extra_text, known, view}
+use Rattle.diagrams.specs.Views.{always, never, version, string, in_literal, has_literal, extra, extra_text, known, view}
 use Rattle.hosts.specs.Hosts.{Meaning, text_of}
 use Rattle.evaluation.specs.Substrings.{Within}
-use Rattle.evaluation.specs.Walks.{Walk, walk}
+use Rattle.evaluation.specs.Walks.{walk}
 
 -- an id says yes or no on a host
 pub data Says (m : Meaning) (t : Table) : ℕ → Bool → Type 0 where

@@ -1,21 +1,20 @@
 -- What a record stores, and the names that it is made with.
-use Rattle.std.proofs.Common.{◌≡◌, ℕ, ◌+◌, ◌-◌, ◌<◌, ◌≤◌, min, Bool, true, false, cond, not, ◌||◌, ltb, List, [], ◌∷◌, ◌++◌, length, get_or, take, drop, replicate, Some, None, Ok, Err, Option, Result, Ordering, sym, refl, ap, ◌∙◌, inl, inr, arith}
-use Rattle.std.specs.Option.{option_or, option_map}
+use Rattle.std.proofs.Common.{◌≡◌, ℕ, ◌+◌, ◌-◌, ◌<◌, ◌≤◌, min, Bool, true, false, cond, not, ◌||◌, ltb, List, [], ◌++◌, length, get_or, take, drop, replicate, Some, None, Ok, Option, Result, Ordering, sym, refl, ap, ◌∙◌, inl, inr, arith}
+use Rattle.std.specs.Option.{option_or}
 use Rattle.std.specs.Ordering.{is_eq}
 use Rattle.std.proofs.lemmas.List.{take_at, take_all, length-take-le, at_drop_more}
 use Rattle.std.proofs.lemmas.Bool.{cases_lt, ltb-false}
-use Rattle.values.specs.Lists.{first_from, first_place}
+use Rattle.values.specs.Lists.{first_from}
 use Rattle.values.specs.Rows.{by_row}
 use Rattle.values.specs.Names.{normal_name}
 use Rattle.values.specs.Texts.{text_bytes}
 use Rattle.values.specs.declared.faults.Fault.{Fault}
-use Rattle.values.specs.declared.faults.Fault.TheVariants.{HostTextTooLong, NameNotNormal}
+use Rattle.values.specs.declared.faults.Fault.TheVariants.{HostTextTooLong}
 use Rattle.values.specs.declared.texts.Text.{Text}
 use Rattle.diagrams.specs.Admission.{answer}
 use Rattle.hosts.specs.Hosts.{Meaning}
 use Rattle.hosts.specs.Records.{most_host_bytes, host_bytes, among, release_at, text_at, fields_meaning, text_refusal, texts_refusal, names_refusal, unless_refused, made_record}
 use Rattle.hosts.specs.declared.records.Fields.{Fields}
-use Rattle.hosts.specs.declared.records.HostBytes.{HostBytes}
 
 -- what is stored of bytes of which k were copied
 pub stored_bytes : (bs stored : List ℕ) (k i : ℕ) → k ≡ min (length bs) most_host_bytes → k ≤ i → i ≤ k → stored ≡ take i bs ++ replicate (most_host_bytes - i) 0 → host_bytes (record { length = k; bytes = stored }) ≡ take most_host_bytes bs

@@ -1,5 +1,5 @@
 -- What a reporter means, and what a report does to it.
-use Rattle.std.specs.Prelude.{ℕ, ◌+◌, min, Bool, cond, List, [], ◌∷◌, ◌++◌, length, drop, ◌==◌}
+use Rattle.std.specs.Prelude.{ℕ, ◌+◌, min, cond, List, [], ◌∷◌, ◌++◌, length, drop, ◌==◌}
 use Rattle.hosts.specs.declared.warnings.MarkerWarningKind.{MarkerWarningKind}
 use Rattle.hosts.specs.declared.warnings.MarkerWarningKind.TheVariants.{DeprecatedMarkerName, ExtraInvalidComparison, LexicographicComparison, MarkerMarkerComparison, Pep440Error, StringStringComparison}
 use Rattle.hosts.specs.declared.warnings.Table.{Table}

@@ -1,5 +1,5 @@
 -- Each value lies in exactly one edge.
-use Rattle.std.proofs.Common.{◌≡◌, ℕ, zero, suc, ◌+◌, ◌-◌, ◌<◌, ◌≤◌, Bool, true, false, cond, not, ◌&&◌, ◌||◌, ◌⊎◌, List, [], ◌∷◌, ◌++◌, map, length, get_or, take, drop, Ordering, Less, Equal, Greater, sym, refl, ap, ◌∙◌, subst, inl, inr, true≢false, arith}
+use Rattle.std.proofs.Common.{◌≡◌, suc, Bool, true, false, not, ◌&&◌, ◌||◌, ◌⊎◌, List, [], ◌∷◌, Ordering, Less, Equal, Greater, sym, refl, ap, ◌∙◌, inl, inr, true≢false}
 use Rattle.std.proofs.lemmas.Bool.{cases_Bool, and_parts, or_parts, or_left, or_right, both_ways}
 use Rattle.std.specs.Ordering.{ordering_reverse, is_eq, is_lt, is_le, is_gt, is_ge}
 use Rattle.values.specs.declared.bounds.Bound.{Bound}
@@ -8,8 +8,8 @@ use Rattle.ranges.specs.declared.edges.Edge.{Edge}
 use Rattle.values.specs.Lists.{any, times}
 use Rattle.values.specs.Rows.{Row, by_row}
 use Rattle.ranges.specs.Bounds.{unbounded, above, below, lies, empty, empty_edge, meet, HoldsNothing}
-use Rattle.ranges.specs.Cover.{go_on, cover, Parted}
-use Rattle.values.specs.Lines.{row_itself, row_turns, row_through, row_alike, row_same}
+use Rattle.ranges.specs.Cover.{go_on, Parted}
+use Rattle.values.specs.Lines.{row_turns, row_through, row_alike, row_same}
 
 pub cases_order : (o : Ordering) → (o ≡ Less) ⊎ ((o ≡ Equal) ⊎ (o ≡ Greater))
 cases_order Less = inl refl

@@ -1,15 +1,12 @@
 -- What making a release or a text answers.
-use Rattle.std.proofs.Common.{◌≡◌, ℕ, zero, suc, ◌+◌, ◌-◌, ◌<◌, ◌≤◌, min, max, Bool, true, false, cond, ◌||◌, eqb, ltb, ◌⊎◌, List, [], ◌∷◌, ◌++◌, map, length, get_or, take, drop, set, replicate, Some, None, Ok, Err, Option, Result, sym, refl, ap, ◌∙◌, subst, inl, inr, le_of_suc-le-suc, not-suc-le-zero, arith}
+use Rattle.std.proofs.Common.{◌≡◌, ℕ, suc, ◌+◌, ◌-◌, ◌<◌, ◌≤◌, min, true, false, eqb, ltb, ◌⊎◌, List, [], ◌∷◌, ◌++◌, map, length, get_or, take, set, replicate, Some, None, Err, Option, sym, refl, ap, ◌∙◌, subst, inl, inr, arith}
 use Rattle.std.proofs.lemmas.List.{take_at, take_more, set_at, take_all, length-take-le, append_assoc}
 use Rattle.std.proofs.lemmas.Bool.{cases_Bool, cases_lt, or_cases, or_parts, or_left, or_right, eqb-true, eqb-false, eq-eqb, ltb-true, ltb-false, lt-ltb, le-ltb}
-use Rattle.values.specs.Lists.{first_from, first_place}
-use Rattle.values.specs.Releases.{largest, most_numbers, release_count, release_numbers, stored_release, wrong_count, unless_large, made_release, RefusedRelease, count, large, MakesRelease}
+use Rattle.values.specs.Lists.{first_place}
+use Rattle.values.specs.Releases.{largest, most_numbers, release_count, release_numbers, stored_release, wrong_count, unless_large, made_release, count, large, MakesRelease}
 use Rattle.values.specs.Texts.{most_bytes, text_bytes, stored_text, made_text, MakesText}
-use Rattle.values.specs.declared.releases.Release.{Release}
-use Rattle.values.specs.declared.texts.Text.{Text}
-use Rattle.values.specs.declared.faults.Fault.{Fault}
-use Rattle.values.specs.declared.faults.Fault.TheVariants.{ReleaseCount, NumberTooLarge, TextTooLong}
-use Rattle.values.proofs.Firsts.{Found, first_none, first_some}
+use Rattle.values.specs.declared.faults.Fault.TheVariants.{ReleaseCount}
+use Rattle.values.proofs.Firsts.{first_none, first_some}
 
 -- one more element copied over the zeros of a list of n places
 pub copied_more : (n : ℕ) (xs stored : List ℕ) (i : ℕ) → i < length xs → i < n → stored ≡ take i xs ++ replicate (n - i) 0 → set stored i (get_or xs i 0) ≡ take (i + 1) xs ++ replicate (n - (i + 1)) 0

@@ -1,5 +1,5 @@
 -- The keys of markers: their numbers in a table, and their names in PEP 508.
-use Rattle.std.specs.Prelude.{◌≡◌, ℕ, List, [], ◌∷◌, Some, None, codes, Option}
+use Rattle.std.specs.Prelude.{◌≡◌, ℕ, List, [], ◌∷◌, Some, codes, Option}
 use Rattle.std.specs.List.{slice_get}
 use Rattle.values.specs.declared.keys.MarkerValueVersion.{MarkerValueVersion}
 use Rattle.values.specs.declared.keys.MarkerValueVersion.TheVariants.{ImplementationVersion, PythonFullVersion, PythonVersion}

@@ -1,5 +1,5 @@
 -- Releases: what a stored one means, how one is made, and their order in plain words.
-use Rattle.std.specs.Prelude.{◌≡◌, ℕ, ◌+◌, ◌-◌, ◌<◌, ◌≤◌, min, max, Bool, cond, ◌||◌, ltb, ◌⊎◌, List, ◌++◌, map, length, take, replicate, Some, None, Ok, Err, Option, Result, ◌==◌, nat_lt, slice_index}
+use Rattle.std.specs.Prelude.{◌≡◌, ℕ, ◌-◌, ◌<◌, ◌≤◌, min, max, Bool, cond, ◌||◌, ltb, ◌⊎◌, List, ◌++◌, map, length, take, replicate, Some, None, Ok, Err, Option, Result, ◌==◌, nat_lt, slice_index}
 use Rattle.values.specs.Lists.{first_place}
 use Rattle.values.specs.Rows.{Row}
 use Rattle.values.specs.declared.faults.Fault.{Fault}

@@ -1,6 +1,6 @@
-use Rattle.std.proofs.Common.{◌≡◌, ◌≤◌, length, get_or, Err, vec_items, ap, ◌∙◌, rules}
+use Rattle.std.proofs.Common.{◌≤◌, length, get_or, Err, vec_items, ap, ◌∙◌, rules}
 use Rattle.std.proofs.lemmas.Result.{err_from_is_err_and}
-use Rattle.console.specs.Spelling.{HexDigit, HexBytes}
+use Rattle.console.specs.Spelling.{HexDigit}
 use Rattle.console.proofs.Pairs.{no_high, no_low, one_more, all_read, one_left}
 use Rattle.console.proofs.Readings.{refused_on}
 use Rattle.console.proofs.words.hexadecimal.Goals as goal

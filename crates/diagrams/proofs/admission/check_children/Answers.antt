@@ -1,4 +1,4 @@
-use Rattle.std.proofs.Common.{◌≡◌, ℕ, true, false, Some, None, sym, ◌∙◌}
+use Rattle.std.proofs.Common.{ℕ, true, false, Some, None, sym, ◌∙◌}
 use Rattle.values.proofs.Firsts.{first_past}
 use Rattle.diagrams.specs.Admission.{too_large}
 use Rattle.diagrams.proofs.Checks.{child_turn, children_are}

@@ -1,6 +1,6 @@
-use Rattle.std.proofs.Common.{◌≡◌, ℕ, ◌<◌, sym, refl, ap, ◌∙◌, rules}
+use Rattle.std.proofs.Common.{ℕ, ◌<◌, sym, ap, ◌∙◌, rules}
 use Rattle.std.proofs.lemmas.Result.{err_from_is_err_and}
-use Rattle.diagrams.specs.Admission.{answer, name_refusal, branches_refusal, node_refusal}
+use Rattle.diagrams.specs.Admission.{answer, name_refusal, branches_refusal}
 use Rattle.diagrams.proofs.Checks.{named, unknown, stops, goes_on}
 use Rattle.diagrams.proofs.admission.check_node.Goals as goal
 

@@ -1,4 +1,4 @@
-use Rattle.std.proofs.Common.{◌≡◌, ℕ, Err, sym, ap, ◌∙◌}
+use Rattle.std.proofs.Common.{ℕ, Err, sym, ap, ◌∙◌}
 use Rattle.std.proofs.lemmas.Result.{err_from_is_err_and}
 use Rattle.diagrams.specs.Held.{table_of}
 use Rattle.diagrams.specs.Tables.{Table}
@@ -6,7 +6,7 @@ use Rattle.diagrams.specs.Views.{View, shown_kind}
 use Rattle.diagrams.proofs.Viewing.{view_shows}
 use Rattle.hosts.specs.Hosts.{Meaning}
 use Rattle.hosts.specs.Tallies.{Tally, reported}
-use Rattle.evaluation.specs.Walks.{Walk, walk}
+use Rattle.evaluation.specs.Walks.{Walk}
 use Rattle.evaluation.proofs.Saying.{evaluates}
 use Rattle.evaluation.proofs.Walking.{lead_below, answer_more, reports_more, answer_end, reports_end, walk_lacks}
 use Rattle.evaluation.proofs.evaluation.evaluate.Goals as goal

@@ -1,4 +1,4 @@
-use Rattle.std.proofs.Common.{◌≡◌, true, false, [], sym, ◌∙◌}
+use Rattle.std.proofs.Common.{true, false, [], sym, ◌∙◌}
 use Rattle.values.specs.Releases.{release_row}
 use Rattle.values.specs.declared.releases.Release.{Release}
 use Rattle.ranges.specs.Bounds.{lies}

@@ -1,8 +1,5 @@
 use Rattle.std.proofs.Common.{◌≡◌, ℕ, Bool, true, false, List, get_or, sym, ap, ◌∙◌}
-use Rattle.values.specs.declared.texts.Text.{Text}
 use Rattle.ranges.specs.Cover.{no_edge}
-use Rattle.ranges.specs.declared.edges.Edge.{Edge}
-use Rattle.diagrams.specs.Ids.{turned}
 use Rattle.diagrams.specs.Views.{seen}
 use Rattle.evaluation.proofs.Asking.{any_turn, any_end}
 use Rattle.evaluation.proofs.extras.any_string.Goals as goal

@@ -1,4 +1,4 @@
-use Rattle.std.proofs.Common.{◌≡◌, ℕ, ◌+◌, ◌<◌, ◌≤◌, Bool, true, false, ◌≢◌, List, length, get_or, set, None, Ok, Err, Option, sym, ap, ◌∙◌, inl, inr, arith, rules, below_more}
+use Rattle.std.proofs.Common.{◌≡◌, ℕ, Bool, false, ◌≢◌, List, get_or, set, Ok, Err, Option, sym, ap, ◌∙◌, arith, rules, below_more}
 use Rattle.std.specs.Option.{option_map}
 use Rattle.std.proofs.lemmas.List.{length-set, get_or-set_same, get_or-set_other}
 use Rattle.std.proofs.lemmas.Result.{err_from_is_err_and}
@@ -7,7 +7,7 @@ use Rattle.diagrams.specs.Tables.{Table}
 use Rattle.diagrams.specs.Views.{shown_kind}
 use Rattle.values.specs.declared.releases.Release.{Release}
 use Rattle.hosts.specs.Records.{names_refusal}
-use Rattle.evaluation.specs.Extras.{extras, extras_answer, unless_refused}
+use Rattle.evaluation.specs.Extras.{extras, unless_refused}
 use Rattle.hosts.proofs.Recording.{passed}
 use Rattle.evaluation.proofs.Possibly.{extras_from, root_low, root_known, root_names, root_lacks, root_answer}
 use Rattle.evaluation.proofs.extras.evaluate_possible.Goals as goal

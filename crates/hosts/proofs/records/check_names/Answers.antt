@@ -1,4 +1,4 @@
-use Rattle.std.proofs.Common.{◌≡◌, ℕ, true, false, not, Some, None, sym, ap, ◌∙◌}
+use Rattle.std.proofs.Common.{ℕ, true, false, not, sym, ap, ◌∙◌}
 use Rattle.std.specs.Option.{option_map}
 use Rattle.values.specs.Names.{normal_name}
 use Rattle.values.specs.Texts.{text_bytes}

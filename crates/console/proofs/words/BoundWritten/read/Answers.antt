@@ -1,7 +1,6 @@
 use Rattle.std.proofs.Common.{◌≡◌, ◌<◌, length, get_or, Err, ap, ◌∙◌, rules}
 use Rattle.std.proofs.lemmas.Slice.Eq.{slice_eq-Decides}
 use Rattle.std.proofs.lemmas.Result.{err_from_is_err_and}
-use Rattle.console.specs.Spelling.{BoundWord}
 use Rattle.console.proofs.Bounding.{tail, opened, none_included, none_excluded}
 use Rattle.console.proofs.Readings.{refused_on}
 use Rattle.console.proofs.words.BoundWritten.read.Goals as goal

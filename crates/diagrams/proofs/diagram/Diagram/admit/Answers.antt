@@ -1,4 +1,4 @@
-use Rattle.std.proofs.Common.{◌≡◌, refl}
+use Rattle.std.proofs.Common.{refl}
 use Rattle.diagrams.specs.Tables.{Table, table, no_table}
 use Rattle.diagrams.specs.Admission.{first_refusal}
 use Rattle.diagrams.proofs.Checks.{passes}

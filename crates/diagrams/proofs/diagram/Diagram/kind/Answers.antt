@@ -1,4 +1,4 @@
-use Rattle.std.proofs.Common.{◌≡◌, ℕ, ◌-◌, ◌/◌, ◌<◌, ◌≤◌, length, refl, arith}
+use Rattle.std.proofs.Common.{ℕ, ◌-◌, ◌/◌, ◌≤◌, length, arith}
 use Rattle.diagrams.specs.Held.{table_of}
 use Rattle.diagrams.specs.Tables.{Table}
 use Rattle.diagrams.specs.Views.{shown_kind}

@@ -1,4 +1,4 @@
-use Rattle.std.proofs.Common.{ℕ, arith}
+use Rattle.std.proofs.Common.{arith}
 use Rattle.values.proofs.Making.{copied_more}
 use Rattle.hosts.specs.Records.{most_host_bytes}
 use Rattle.hosts.proofs.Recording.{stored_bytes}

@@ -1,4 +1,4 @@
-use Rattle.std.proofs.Common.{◌≡◌, ℕ, ◌-◌, ltb, List, ◌++◌, length, take, drop, replicate}
+use Rattle.std.proofs.Common.{◌≡◌, ℕ, ◌-◌, ltb, List, ◌++◌, take, drop, replicate}
 use Rattle.values.specs.Lists.{first_from, first_place}
 use Rattle.values.specs.Releases.{largest, most_numbers}
 use Rattle.values.proofs.releases.Release.new.Given as goal
