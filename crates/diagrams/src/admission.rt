@@ -173,6 +173,7 @@ fn check_node(
 }
 
 // The first rule that the lists break.
+#[tactic(auto, using(crate::proofs::Checks::many))]
 fn check_table(nodes: &[Node], releases: &[ReleaseEdge], texts: &[TextEdge]) -> Result<(), Fault>
     ensures { result ≡ answer (first_refusal (table nodes.now releases.now texts.now)) }
 {

@@ -103,6 +103,7 @@ fn check_texts(fields: &Fields) -> Result<(), Fault>
 }
 
 // Refusal 16 of the first name that is not normal.
+#[tactic(auto, using(crate::proofs::Recording::names_turn))]
 pub fn check_names(names: &[Text]) -> Result<(), Fault>
     ensures { result ≡ answer (names_refusal names.now) }
 {
@@ -115,6 +116,7 @@ pub fn check_names(names: &[Text]) -> Result<(), Fault>
 }
 
 // Whether a name is among names, byte for byte.
+#[tactic(auto, using(crate::proofs::Recording::among_turn))]
 pub fn is_among(name: &Text, names: &[Text]) -> bool
     ensures { result ≡ among names.now (text_bytes name.now) }
 {

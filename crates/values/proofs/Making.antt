@@ -1,12 +1,12 @@
 -- What making a release or a text answers.
-use Rattle.std.proofs.Common.{◌≡◌, ℕ, suc, ◌+◌, ◌-◌, ◌<◌, ◌≤◌, min, true, false, eqb, ltb, ◌⊎◌, List, [], ◌∷◌, ◌++◌, map, length, get_or, take, set, replicate, Some, None, Err, Option, sym, refl, ap, ◌∙◌, subst, inl, inr, arith}
+use Rattle.std.proofs.Common.{◌≡◌, ℕ, suc, ◌+◌, ◌-◌, ◌<◌, ◌≤◌, min, true, false, eqb, ltb, ◌⊎◌, List, [], ◌∷◌, ◌++◌, map, length, get_or, take, drop, set, replicate, Some, None, Err, Option, sym, refl, ap, ◌∙◌, subst, inl, inr, arith}
 use Rattle.std.proofs.lemmas.List.{take_at, take_more, set_at, take_all, length-take-le, append_assoc}
 use Rattle.std.proofs.lemmas.Bool.{cases_Bool, cases_lt, or_cases, or_parts, or_left, or_right, eqb-true, eqb-false, eq-eqb, ltb-true, ltb-false, lt-ltb, le-ltb}
-use Rattle.values.specs.Lists.{first_place}
+use Rattle.values.specs.Lists.{first_from, first_place}
 use Rattle.values.specs.Releases.{largest, most_numbers, release_count, release_numbers, stored_release, wrong_count, unless_large, made_release, count, large, MakesRelease}
 use Rattle.values.specs.Texts.{most_bytes, text_bytes, stored_text, made_text, MakesText}
-use Rattle.values.specs.declared.faults.Fault.TheVariants.{ReleaseCount}
-use Rattle.values.proofs.Firsts.{first_none, first_some}
+use Rattle.values.specs.declared.faults.Fault.TheVariants.{ReleaseCount, NumberTooLarge}
+use Rattle.values.proofs.Firsts.{first_none, first_some, first_here}
 
 -- one more element copied over the zeros of a list of n places
 pub copied_more : (n : ℕ) (xs stored : List ℕ) (i : ℕ) → i < length xs → i < n → stored ≡ take i xs ++ replicate (n - i) 0 → set stored i (get_or xs i 0) ≡ take (i + 1) xs ++ replicate (n - (i + 1)) 0
@@ -86,6 +86,14 @@ makes_release ns =
     rest p (Some i) e =
         let w = first_some 0 (ltb largest) ns e in
         large i p.0 p.1 w.within (ltb-true largest (get_or ns i 0) w.here) (λ k lt. ltb-false largest (get_or ns k 0) (w.earlier k lt))
+
+-- the first number that is too large, where those before it were looked at
+module _ (ns : List ℕ) (i : ℕ) (some : 1 ≤ length ns) (few : length ns ≤ most_numbers) (lt : i < length ns) (left : first_from (ltb largest) i (drop i ns) ≡ first_place (ltb largest) ns) (more : largest < get_or ns i 0) where
+  pub too_large : Err (NumberTooLarge i) ≡ made_release ns
+  too_large = answered ns (Some i) (count_right ns some few) (sym left ∙ first_here 0 (ltb largest) ns i true lt (lt-ltb largest (get_or ns i 0) more))
+
+  pub too_large_law : MakesRelease ns (Err (NumberTooLarge i))
+  too_large_law = subst (MakesRelease ns) (sym too_large) (makes_release ns)
 
 -- ---- texts
 

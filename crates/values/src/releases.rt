@@ -18,6 +18,7 @@ pub struct Release {
 
 impl Release {
     // The release of a list of numbers: refusal 1 for a wrong count, then 2.
+    #[tactic(auto, using(crate::proofs::Making::too_large, crate::proofs::Making::too_large_law))]
     pub fn new(numbers: &[u64]) -> Result<Release, Fault>
         ensures answer { result ≡ made_release numbers.now }
         ensures law { MakesRelease numbers.now result }

@@ -1,19 +1,11 @@
-use Rattle.std.proofs.Common.{ℕ, true, false, not, sym, ap, ◌∙◌}
+use Rattle.std.proofs.Common.{ℕ, not, sym, ap, ◌∙◌}
 use Rattle.std.specs.Option.{option_map}
 use Rattle.values.specs.Names.{normal_name}
 use Rattle.values.specs.Texts.{text_bytes}
 use Rattle.values.specs.declared.faults.Fault.TheVariants.{NameNotNormal}
 use Rattle.values.proofs.Firsts.{first_past}
 use Rattle.diagrams.specs.Admission.{answer}
-use Rattle.hosts.proofs.Recording.{names_turn}
 use Rattle.hosts.proofs.records.check_names.Goals as goal
-
-pub returns-then-not-is_normal_name : goal.returns-then-not-is_normal_name
-returns-then-not-is_normal_name c =
-    ap (λ o. answer (option_map (λ (i : ℕ). NameNotNormal i) o)) (names_turn c.args.names.now c.loop-index.index false c.loop-index-test.true c.if-not-is_normal_name.ensures.answer ∙ c.loop-index.invariant)
-
-pub loop-index-preserved : goal.loop-index-preserved
-loop-index-preserved c = names_turn c.args.names.now c.loop-index.index true c.loop-index-test.true c.if-not-is_normal_name.ensures.answer ∙ c.loop-index.invariant
 
 pub returns : goal.returns
 returns c =
