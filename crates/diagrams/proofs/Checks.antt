@@ -14,6 +14,12 @@ use Rattle.diagrams.specs.Tables.{Table, child_ids, no_node}
 use Rattle.diagrams.specs.Admission.{answer, too_large, child_refusal, same_refusal, name_refusal, branches_refusal, node_refusal, nodes_refusal, most_nodes, first_refusal}
 use Rattle.diagrams.specs.declared.rows.Node.{Node}
 
+pub large_yes : (i c : ℕ) → i < c / 2 → too_large i c ≡ true
+large_yes i c h = grind (arith, nat_tests)
+
+pub large_no : (i c : ℕ) → c / 2 ≤ i → too_large i c ≡ false
+large_no i c h = grind (arith, nat_tests)
+
 -- the first child that passes, looked for among the edges
 pub first_child : {T : Type 0} (p : ℕ → Bool) (i : ℕ) (es : List (Edge T)) → first_from p i (child_ids es) ≡ first_from (λ e. p e.child) i es
 first_child p i [] = refl
