@@ -2,7 +2,7 @@
 use Rattle.std.proofs.Common.{◌≡◌, ℕ, ◌+◌, ◌-◌, ◌*◌, ◌/◌, ◌%◌, ◌<◌, ◌≤◌, List, [], ◌∷◌, ◌++◌, length, get_or, take, drop, sym, refl, ap, ◌∙◌, arith}
 use lib.Arith.{digits_div, digits_mod}
 use Rattle.std.specs.Char.{digit_char}
-use Rattle.std.specs.List.{AllByRecursion as All}
+use Rattle.std.specs.List.{AllByRecursion}
 use Rattle.std.proofs.ByRecursion.{All-push}
 use Rattle.std.proofs.lemmas.List.{take_rest, drop_more, append_assoc, append-nil, nil_from_length}
 use Rattle.console.specs.Spelling.{HexDigit, HexBytes, hex_digits}
@@ -21,14 +21,14 @@ second_tail : {X : Type 0} (a b c d : X) (xs ys : List X) → a ∷ b ∷ xs ≡
 second_tail a b c d xs ys e = cc
 
 -- digits behind those of xs write the bytes behind xs
-hex_behind : (xs rest bs : List ℕ) → hex_digits xs ++ rest ≡ hex_digits bs → All Byte bs → (cs : List ℕ) × HexBytes rest cs
+hex_behind : (xs rest bs : List ℕ) → hex_digits xs ++ rest ≡ hex_digits bs → AllByRecursion Byte bs → (cs : List ℕ) × HexBytes rest cs
 hex_behind [] rest bs e small = (bs, (e, small))
 hex_behind (x ∷ xs) rest [] e small = absurd (not_nil _ _ e)
 hex_behind (x ∷ xs) rest (b ∷ bs) e small = hex_behind xs rest bs (second_tail _ _ _ _ _ _ e) small.1
 
 -- SO FAR the digits write the bytes xs, and the rest is left
 abbrev pub SoFar : List ℕ → List ℕ → List ℕ → Type 0
-SoFar digits xs rest = (digits ≡ hex_digits xs ++ rest) × All Byte xs
+SoFar digits xs rest = (digits ≡ hex_digits xs ++ rest) × AllByRecursion Byte xs
 
 module _ (digits xs rest : List ℕ) (s : SoFar digits xs rest) where
   -- what is left writes bytes, if all do
@@ -50,7 +50,7 @@ module _ (digits xs rest : List ℕ) (s : SoFar digits xs rest) where
     next_pair : (bs : List ℕ) → HexBytes digits bs → (b : ℕ) × (b < 256) × (get_or rest 0 0 ≡ digit_char (b / 16)) × (get_or rest 1 0 ≡ digit_char (b % 16))
     next_pair bs h = let p = left_writes bs h in of_pair p.0 p.1.0 p.1.1
       where
-        of_pair : (cs : List ℕ) → rest ≡ hex_digits cs → All Byte cs → (b : ℕ) × (b < 256) × (get_or rest 0 0 ≡ digit_char (b / 16)) × (get_or rest 1 0 ≡ digit_char (b % 16))
+        of_pair : (cs : List ℕ) → rest ≡ hex_digits cs → AllByRecursion Byte cs → (b : ℕ) × (b < 256) × (get_or rest 0 0 ≡ digit_char (b / 16)) × (get_or rest 1 0 ≡ digit_char (b % 16))
         of_pair [] q small = absurd (let n : length rest ≡ 0 = ap length q in omega arith)
         of_pair (c ∷ cs) q small = (c, small.0, ap (λ l. get_or l 0 0) q, ap (λ l. get_or l 1 0) q)
 

@@ -2,7 +2,7 @@
 use Rattle.std.specs.Prelude.{◌≡◌, ℕ, ◌/◌, ◌%◌, ◌^◌, ◌<◌, ◌⊎◌, List, [], ◌∷◌, length, slice_index}
 use Rattle.std.specs.Str.Parse.{IsNumeral, digits_value}
 use Rattle.std.specs.Char.{digit_char}
-use Rattle.std.specs.List.{AllByRecursion as All}
+use Rattle.std.specs.List.{AllByRecursion}
 use Rattle.values.specs.declared.bounds.Bound.{Bound}
 use Rattle.values.specs.declared.bounds.Bound.TheVariants.{Unbounded, Included, Excluded}
 use Rattle.console.specs.Cuts.{pieces}
@@ -49,11 +49,11 @@ hex_digits [] = []
 hex_digits (b ∷ bs) = digit_char (b / 16) ∷ digit_char (b % 16) ∷ hex_digits bs
 
 abbrev pub HexBytes : List ℕ → List ℕ → Type 0
-HexBytes digits bs = (digits ≡ hex_digits bs) × All (λ b. b < 256) bs
+HexBytes digits bs = (digits ≡ hex_digits bs) × AllByRecursion (λ b. b < 256) bs
 
 -- a text: `x`, and two digits for each byte
 abbrev pub IsTextWord : List ℕ → List ℕ → Type 0
-IsTextWord word bs = (word ≡ 120 ∷ hex_digits bs) × All (λ b. b < 256) bs
+IsTextWord word bs = (word ≡ 120 ∷ hex_digits bs) × AllByRecursion (λ b. b < 256) bs
 
 -- a bound: `*`, or `[` or `(` and a value
 abbrev pub BoundWord : {V : Type 0} → (List ℕ → V → Type 0) → List ℕ → Bound V → Type 0
