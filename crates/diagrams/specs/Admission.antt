@@ -1,5 +1,5 @@
 -- Admission: the first rule that a table breaks.
-use Rattle.std.specs.Prelude.{ℕ, ◌+◌, ◌*◌, Bool, true, cond, ◌||◌, List, [], ◌∷◌, length, is_some, Some, None, Ok, Err, Option, Result, ◌==◌, nat_eq, nat_le, nat_lt}
+use Rattle.std.specs.Prelude.{ℕ, ◌+◌, ◌*◌, Bool, true, cond, ◌||◌, List, [], ◌∷◌, length, is_some, Some, None, Ok, Err, Option, Result, ◌==◌, nat_le, nat_lt}
 use Rattle.std.specs.Option.{option_map, option_or}
 use Rattle.values.specs.Lists.{all, first_place}
 use Rattle.values.specs.Rows.{Row}
@@ -58,7 +58,7 @@ cover_refusal row i es = option_map (λ j. Uncovered i j) (uncovered row es)
 -- 13: all children are one
 abbrev pub all_same : List ℕ → Bool
 all_same [] = true
-all_same (c ∷ cs) = all (λ d. nat_eq d c) cs
+all_same (c ∷ cs) = all (λ d. d == c) cs
 
 abbrev pub same_refusal : ℕ → List ℕ → Option Fault
 same_refusal i cs = cond (all_same cs) (Some (OneChild i)) None

@@ -1,5 +1,5 @@
 -- What an id shows.
-use Rattle.std.specs.Prelude.{◌≡◌, ℕ, ◌-◌, ◌/◌, ◌<◌, Bool, true, false, cond, List, map, length, get_or, is_ok, Some, None, Ok, Err, Option, Result, ◌==◌, nat_le, slice_index_or}
+use Rattle.std.specs.Prelude.{◌≡◌, ℕ, ◌-◌, ◌/◌, ◌<◌, Bool, true, false, cond, List, map, length, is_ok, Some, None, Ok, Err, Option, Result, ◌==◌, nat_le, slice_index_or}
 use Rattle.std.specs.Option.{option_map, ok_or}
 use Rattle.values.specs.Lists.{any, times}
 use Rattle.values.specs.Rows.{Row}
@@ -89,7 +89,7 @@ shown (Err f) = Err f
 -- what is known of the edges that an admitted diagram shows under an id
 pub record SoundLines {T : Type 0} (row : T → Row) (id : ℕ) (es : List (Edge T)) : Type 0 where
   -- children fall
-  pub falls : (j : ℕ) → j < length es → (get_or es j no_edge).child < id
+  pub falls : (j : ℕ) → j < length es → (slice_index_or es j no_edge).child < id
   pub filled : any (empty_edge row) es ≡ false
   pub covered : cover row es ≡ true
   -- exactly one edge contains any value

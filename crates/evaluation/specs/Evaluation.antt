@@ -1,5 +1,5 @@
 -- What evaluation means, in plain words: a relation without a count of steps, and the laws of every admitted diagram.
-use Rattle.std.specs.Prelude.{◌≡◌, ℕ, ◌<◌, Bool, true, false, not, List, [], length, get_or, Ok, Err, Result, slice_index_or}
+use Rattle.std.specs.Prelude.{◌≡◌, ℕ, ◌<◌, Bool, true, false, not, List, [], length, Ok, Err, Result, slice_index_or}
 use Rattle.values.specs.Releases.{release_row}
 use Rattle.values.specs.Texts.{text_bytes}
 use Rattle.values.specs.declared.faults.Fault.{Fault}
@@ -24,9 +24,9 @@ pub data Says (m : Meaning) (t : Table) : ℕ → Bool → Type 0 where
   at_false : {id : ℕ} → view t id ≡ Ok never → Says m t id false
   -- a release or text node says what the child says whose range contains the host's value
   at_version : {id : ℕ} {b : Bool} (k : MarkerValueVersion) (es : List (Edge Release)) (j : ℕ) → view t id ≡ Ok (version k es) → j < length es → lies release_row (slice_index_or es j no_edge) (release_row (m.release k)) ≡ true
-      → Says m t (get_or es j no_edge).child b → Says m t id b
+      → Says m t (slice_index_or es j no_edge).child b → Says m t id b
   at_string : {id : ℕ} {b : Bool} (k : MarkerValueString) (es : List (Edge Text)) (j : ℕ) → view t id ≡ Ok (string k es) → j < length es → lies text_bytes (slice_index_or es j no_edge) (text_of m k) ≡ true
-      → Says m t (get_or es j no_edge).child b → Says m t id b
+      → Says m t (slice_index_or es j no_edge).child b → Says m t id b
   -- the host's text stands in the literal, or not
   in_high : {id : ℕ} {b : Bool} (k : MarkerValueString) (l : Text) (high low : ℕ) → view t id ≡ Ok (in_literal k l high low) → Within (text_of m k) (text_bytes l) → Says m t high b → Says m t id b
   in_low : {id : ℕ} {b : Bool} (k : MarkerValueString) (l : Text) (high low : ℕ) → view t id ≡ Ok (in_literal k l high low) → (Within (text_of m k) (text_bytes l) → ⊥) → Says m t low b → Says m t id b

@@ -1,5 +1,5 @@
 -- What may be said when only names, and perhaps releases of Python, are known.
-use Rattle.std.specs.Prelude.{◌≡◌, ℕ, zero, suc, ◌<◌, Bool, true, false, cond, ◌&&◌, ◌||◌, List, length, get_or, Some, None, Ok, Err, Option, Result, slice_index_or}
+use Rattle.std.specs.Prelude.{◌≡◌, ℕ, zero, suc, ◌<◌, Bool, true, false, cond, ◌&&◌, ◌||◌, List, length, Some, None, Ok, Err, Option, Result, slice_index_or}
 use Rattle.std.specs.Ordering.{is_eq}
 use Rattle.values.specs.Lists.{any}
 use Rattle.values.specs.Rows.{by_row}
@@ -64,8 +64,8 @@ extras_answer names rs t root = cond (known t root) (unless_refused (names_refus
 -- in plain words: an id may say yes
 pub data Possible (names : List Text) (rs : Option (List Release)) (t : Table) : ℕ → Type 0 where
   at_true : {id : ℕ} → view t id ≡ Ok always → Possible names rs t id
-  at_version : {id : ℕ} (k : MarkerValueVersion) (es : List (Edge Release)) (j : ℕ) → view t id ≡ Ok (version k es) → j < length es → counts rs k (slice_index_or es j no_edge) ≡ true → Possible names rs t (get_or es j no_edge).child → Possible names rs t id
-  at_string : {id : ℕ} (k : MarkerValueString) (es : List (Edge Text)) (j : ℕ) → view t id ≡ Ok (string k es) → j < length es → Possible names rs t (get_or es j no_edge).child → Possible names rs t id
+  at_version : {id : ℕ} (k : MarkerValueVersion) (es : List (Edge Release)) (j : ℕ) → view t id ≡ Ok (version k es) → j < length es → counts rs k (slice_index_or es j no_edge) ≡ true → Possible names rs t (slice_index_or es j no_edge).child → Possible names rs t id
+  at_string : {id : ℕ} (k : MarkerValueString) (es : List (Edge Text)) (j : ℕ) → view t id ≡ Ok (string k es) → j < length es → Possible names rs t (slice_index_or es j no_edge).child → Possible names rs t id
   in_high : {id : ℕ} (k : MarkerValueString) (l : Text) (high low : ℕ) → view t id ≡ Ok (in_literal k l high low) → Possible names rs t high → Possible names rs t id
   in_low : {id : ℕ} (k : MarkerValueString) (l : Text) (high low : ℕ) → view t id ≡ Ok (in_literal k l high low) → Possible names rs t low → Possible names rs t id
   has_high : {id : ℕ} (k : MarkerValueString) (l : Text) (high low : ℕ) → view t id ≡ Ok (has_literal k l high low) → Possible names rs t high → Possible names rs t id

@@ -1,4 +1,4 @@
-ghost use Rattle.std.specs.Prelude.{◌≡◌, Bool, false, ◌&&◌, List, map, get_or, Some, None, slice_index_or};
+ghost use Rattle.std.specs.Prelude.{◌≡◌, Bool, false, ◌&&◌, List, map, Some, None, slice_index_or};
 ghost use Rattle.std.specs.Option.{option_map};
 ghost use Rattle.values.specs.Lists.{any};
 ghost use Rattle.values.specs.Releases.{release_row};
@@ -84,7 +84,7 @@ fn any_version(tree: &VersionMarkerTree, releases: Option<&[Release]>, table: &[
 
 // Whether an edge of a text node leads to a yes.
 fn any_string(tree: &StringMarkerTree, table: &[bool]) -> bool
-    ensures { result ≡ any (λ e. get_or table.now e.child false) (map (seen tree.now.id.0) tree.now.edges.now) }
+    ensures { result ≡ any (λ e. slice_index_or table.now e.child false) (map (seen tree.now.id.0) tree.now.edges.now) }
 {
     for edge in tree.edges {
         if settled(table, tree.child(edge)) {
@@ -111,7 +111,7 @@ fn may_be(
     releases: Option<&[Release]>,
     table: &[bool],
 ) -> bool
-    ensures { result ≡ may_say names.now (option_map (λ x. x.now) releases.entry) (λ c. get_or table.now c false) (shown_kind kind.now) }
+    ensures { result ≡ may_say names.now (option_map (λ x. x.now) releases.entry) (λ c. slice_index_or table.now c false) (shown_kind kind.now) }
 {
     match kind {
         MarkerTreeKind::True => true,
@@ -135,7 +135,7 @@ fn settle(
     releases: Option<&[Release]>,
     table: &[bool],
 ) -> bool
-    ensures { result ≡ on_result names.now (option_map (λ x. x.now) releases.entry) (λ c. get_or table.now c false) (view (table_of diagram.now) id.0) }
+    ensures { result ≡ on_result names.now (option_map (λ x. x.now) releases.entry) (λ c. slice_index_or table.now c false) (view (table_of diagram.now) id.0) }
 {
     match diagram.kind(id) {
         Ok(kind) => may_be(&kind, names, releases, table),

@@ -1,5 +1,5 @@
 -- Normal names of extras, as PEP 685 has them.
-use Rattle.std.specs.Prelude.{◌≡◌, ℕ, ◌+◌, ◌<◌, ◌≤◌, Bool, true, cond, not, ◌&&◌, ◌||◌, ◌⊎◌, List, [], ◌∷◌, length, ◌==◌, ◌≢◌, nat_le, slice_index, slice_index_or}
+use Rattle.std.specs.Prelude.{◌≡◌, ℕ, ◌+◌, ◌<◌, ◌≤◌, Bool, true, cond, not, ◌&&◌, ◌||◌, ◌⊎◌, List, [], ◌∷◌, length, ◌==◌, ◌≢◌, nat_le, slice_index}
 use Rattle.values.specs.Texts.{most_bytes}
 
 abbrev pub hyphen : ℕ
@@ -31,6 +31,6 @@ pub record Normal (bs : List ℕ) : Type 0 where
   pub some : 1 ≤ length bs
   pub few : length bs ≤ most_bytes
   pub bytes : (k : ℕ) → k < length bs → NameByte (slice_index bs k)
-  pub begins : slice_index_or bs 0 0 ≡ hyphen → ⊥
+  pub begins : slice_index bs 0 ≢ hyphen
   pub ends : (k : ℕ) → k + 1 ≡ length bs → slice_index bs k ≢ hyphen
   pub apart : (k : ℕ) → k + 1 < length bs → slice_index bs k ≡ hyphen → slice_index bs (k + 1) ≢ hyphen
