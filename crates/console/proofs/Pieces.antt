@@ -1,8 +1,12 @@
 -- A value for each piece, read piece by piece.
 use Rattle.std.proofs.Common.{◌≡◌, ℕ, List, [], ◌∷◌, ◌++◌, None, Some, Option, sym, refl, ap, ◌∙◌}
 use Rattle.std.proofs.lemmas.List.{append-nil, append_assoc}
-use Rattle.console.specs.Cuts.{Gives, pieces_left}
+use Rattle.console.specs.Cuts.{Gives, pieces, pieces_left}
 use Rattle.console.specs.Spelling.{Decimal, Decimals, Each}
+
+-- all pieces of bytes that are split at a mark
+pub split_left : (m mark : ℕ) (rest : Option (List ℕ)) (bytes : List ℕ) → mark ≡ m → rest ≡ Some bytes → pieces_left mark rest ≡ pieces m bytes
+split_left m mark rest bytes e f = ap (λ k. pieces_left k rest) e ∙ ap (pieces_left m) f
 
 module _ {V : Type 0} (written : List ℕ → V → Type 0) where
   -- the pieces before those that are left write the values so far

@@ -1,7 +1,8 @@
 -- What a reader answers where another one refuses.
 use Rattle.std.proofs.Common.{◌≡◌, ℕ, List, [], ◌∷◌, Err, Result, sym, subst}
 use Rattle.console.specs.Reading.{Reads}
-use Rattle.console.specs.Words.{Next}
+use Rattle.console.specs.Spelling.{Decimal}
+use Rattle.console.specs.Words.{Next, Number}
 use Rattle.console.specs.declared.words.Unread.{Unread}
 use Rattle.console.specs.declared.words.Unread.TheVariants.{Malformed, NoMemory}
 
@@ -24,6 +25,10 @@ none_left P words e h = subst (Next P) e h
 pub next_weaker : (P Q : List ℕ → Type 0) → ((word : List ℕ) → P word → Q word) → (words : List (List ℕ)) → Next P words → Next Q words
 next_weaker P Q f [] h = absurd h
 next_weaker P Q f (word ∷ words) h = f word h
+
+-- no number is read, and so none up to a limit
+pub number_refused : (most : ℕ) (words : List (List ℕ)) (r : Result ℕ Unread) (e : Unread) → r ≡ Err e → Reads (λ n. Next (λ word. Decimal word n) words) (Err e) → Reads (λ n. Next (Number most n) words) r
+number_refused most words r e is h = refused_on _ _ r e is h (λ none n w. none n (next_weaker (Number most n) (λ word. Decimal word n) (λ _ d. d.0) words w))
 
 -- what is read of the next word
 pub next_read : {V : Type 0} (P : List ℕ → V → Type 0) (word : List ℕ) (words : List (List ℕ)) (r : Result V Unread) → Next (λ w. w ≡ word) words → Reads (P word) r → Reads (λ v. Next (λ w. P w v) words) r

@@ -29,13 +29,13 @@ pub(crate) struct Console {
 }
 
 impl Console {
-    pub(crate) fn new(heap: Global, out: Stdout) -> io::Result<Console> {
-        Ok(Console {
+    pub(crate) fn new(heap: Global, out: BufWriter<Stdout>) -> Console {
+        Console {
             heap,
-            out: BufWriter::new(heap, out)?,
+            out,
             table: Table::new(heap),
             station: Station::new(heap),
-        })
+        }
     }
 
     // Answers the commands of a script.

@@ -17,12 +17,13 @@ mod words;
 use console::Console;
 use script::Script;
 use std::io;
-use std::io::Read;
+use std::io::{BufWriter, Read};
 
 fn main(rt: HostRuntime) -> io::Result<()> {
     let mut input = Vec::new(rt.alloc());
     rt.stdin().read_to_end(&mut input)?;
-    let mut console = Console::new(rt.alloc(), rt.stdout())?;
+    let out = BufWriter::new(rt.alloc(), rt.stdout())?;
+    let mut console = Console::new(rt.alloc(), out);
     console.run(&mut Script::new(&input))?;
     console.finish()
 }

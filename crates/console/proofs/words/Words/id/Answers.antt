@@ -1,12 +1,10 @@
 use Rattle.std.proofs.Common.{Err, ap, ◌∙◌}
 use Rattle.std.proofs.lemmas.Result.{err_from_is_err_and}
-use Rattle.console.specs.Spelling.{Decimal}
-use Rattle.console.specs.Words.{words_left, Number}
-use Rattle.console.proofs.Readings.{refused_on, next_weaker}
+use Rattle.console.specs.Words.{words_left}
+use Rattle.console.proofs.Readings.{number_refused}
 use Rattle.console.proofs.words.Words.id.Goals as goal
 
 pub returns-in_err-number : goal.returns-in_err-number
 returns-in_err-number c =
     let p = err_from_is_err_and c.from_residual.result c.from_residual.ensures.1 in
-    refused_on _ _ _ c.in_err-number.field-0.0 (p.1 ∙ ap Err p.2) c.in_err-number.ensures
-    (λ none n h. none n (next_weaker (Number 4294967295 n) (λ word. Decimal word n) (λ _ d. d.0) (words_left c.args.self.now) h))
+    number_refused 4294967295 (words_left c.args.self.now) _ c.in_err-number.field-0.0 (p.1 ∙ ap Err p.2) c.in_err-number.ensures
