@@ -1,8 +1,8 @@
 -- The word of a bound: its first byte, and the value behind it.
 use Rattle.std.proofs.Common.{◌≡◌, ℕ, ◌-◌, ◌<◌, List, ◌∷◌, length, get_or, take, drop, sym, ap, ◌∙◌, subst, arith}
 use Rattle.std.proofs.lemmas.List.{take_rest, drop_more}
-use Rattle.values.specs.declared.bounds.Bound.{Bound}
-use Rattle.values.specs.declared.bounds.Bound.TheVariants.{Unbounded, Included, Excluded}
+use Rattle.std.specs.declared.ops.Bound.{Bound}
+use Rattle.std.specs.declared.ops.Bound.TheVariants.{Unbounded, Included, Excluded}
 use Rattle.console.specs.Spelling.{BoundWord}
 
 -- what stands behind the first byte, as the code cuts it

@@ -1,7 +1,7 @@
 -- How bounds and edges are made of what was read: the first refusal is the answer.
 use Rattle.std.specs.Prelude.{Ok, Err, Result}
-use Rattle.values.specs.declared.bounds.Bound.{Bound}
-use Rattle.values.specs.declared.bounds.Bound.TheVariants.{Unbounded, Included, Excluded}
+use Rattle.std.specs.declared.ops.Bound.{Bound}
+use Rattle.std.specs.declared.ops.Bound.TheVariants.{Unbounded, Included, Excluded}
 use Rattle.values.specs.declared.faults.Fault.{Fault}
 use Rattle.ranges.specs.declared.edges.Edge.{Edge}
 

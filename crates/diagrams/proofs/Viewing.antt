@@ -10,7 +10,7 @@ use Rattle.values.specs.Releases.{release_row}
 use Rattle.values.specs.Texts.{text_bytes}
 use Rattle.values.specs.Keys.{version_keys, version_key_of, string_keys, string_key_of}
 use Rattle.values.specs.declared.faults.Fault.TheVariants.{UnknownId}
-use Rattle.values.specs.declared.bounds.Bound.{Bound}
+use Rattle.std.specs.declared.ops.Bound.{Bound}
 use Rattle.values.proofs.Firsts.{some_none, some_same}
 use Rattle.ranges.specs.Bounds.{unbounded, meet, empty_edge}
 use Rattle.ranges.specs.Cover.{cover, go_on, no_edge}

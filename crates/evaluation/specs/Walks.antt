@@ -4,8 +4,8 @@ use Rattle.std.specs.Ordering.{is_eq}
 use Rattle.values.specs.Rows.{Row, by_row}
 use Rattle.values.specs.Releases.{release_row}
 use Rattle.values.specs.Texts.{text_bytes}
-use Rattle.values.specs.declared.bounds.Bound.{Bound}
-use Rattle.values.specs.declared.bounds.Bound.TheVariants.{Unbounded, Included, Excluded}
+use Rattle.std.specs.declared.ops.Bound.{Bound}
+use Rattle.std.specs.declared.ops.Bound.TheVariants.{Unbounded, Included, Excluded}
 use Rattle.values.specs.declared.faults.Fault.{Fault}
 use Rattle.values.specs.declared.faults.Fault.TheVariants.{UnknownId}
 use Rattle.values.specs.declared.keys.MarkerValueString.{MarkerValueString}

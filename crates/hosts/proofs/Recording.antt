@@ -4,7 +4,7 @@ use Rattle.std.specs.Option.{option_or}
 use Rattle.std.specs.Ordering.{is_eq}
 use Rattle.std.proofs.lemmas.List.{take_at, take_all, length-take-le, at_drop_more}
 use Rattle.std.proofs.lemmas.Bool.{cases_lt, ltb-false}
-use Rattle.values.specs.Lists.{first_from}
+use Rattle.std.specs.List.{position_from}
 use Rattle.values.specs.Rows.{by_row}
 use Rattle.values.specs.Names.{normal_name}
 use Rattle.values.specs.Texts.{text_bytes}
@@ -48,10 +48,10 @@ among_turn names n i b o lt e h = at_drop_more (λ ts. among ts n) names i no_te
 
 -- one turn, at a name that is normal or not
 pub names_turn : (names : List Text) (i : ℕ) (b : Bool) → i < length names → b ≡ normal_name (text_bytes (get_or names i no_text))
-    → cond (not b) (Some i) (first_from (λ t. not (normal_name (text_bytes t))) (i + 1) (drop (i + 1) names)) ≡ first_from (λ t. not (normal_name (text_bytes t))) i (drop i names)
+    → cond (not b) (Some i) (position_from (λ t. not (normal_name (text_bytes t))) (i + 1) (drop (i + 1) names)) ≡ position_from (λ t. not (normal_name (text_bytes t))) i (drop i names)
 names_turn names i b lt e =
-    ap (λ q. cond (not q) (Some i) (first_from (λ t. not (normal_name (text_bytes t))) (i + 1) (drop (i + 1) names))) e
-    ∙ sym (at_drop_more (first_from (λ t. not (normal_name (text_bytes t))) i) names i no_text lt)
+    ap (λ q. cond (not q) (Some i) (position_from (λ t. not (normal_name (text_bytes t))) (i + 1) (drop (i + 1) names))) e
+    ∙ sym (at_drop_more (position_from (λ t. not (normal_name (text_bytes t))) i) names i no_text lt)
 
 -- no refusal
 pub passed : {x : Unit {0}} (o : Option Fault) → Ok x ≡ answer o → o ≡ None

@@ -2,7 +2,7 @@
 use Rattle.std.specs.Prelude.{ℕ, Bool, cond, not, List, length, take, Some, None, Ok, Err, Option, Result, nat_lt}
 use Rattle.std.specs.Option.{option_map, option_or}
 use Rattle.std.specs.Ordering.{is_eq}
-use Rattle.values.specs.Lists.{any, first_place}
+use Rattle.std.specs.List.{list_any, position_from}
 use Rattle.values.specs.Rows.{by_row}
 use Rattle.values.specs.Texts.{text_bytes}
 use Rattle.values.specs.Names.{normal_name}
@@ -33,7 +33,7 @@ same_name a b = is_eq (by_row a b)
 
 -- a name is among names
 abbrev pub among : List Text → List ℕ → Bool
-among names n = any (λ t. same_name (text_bytes t) n) names
+among names n = list_any (λ t. same_name (text_bytes t) n) names
 
 -- three releases, by their keys
 abbrev pub release_at : Release → Release → Release → MarkerValueVersion → Release
@@ -92,7 +92,7 @@ texts_refusal f =
 
 -- 16: the first name that is not normal
 abbrev pub names_refusal : List Text → Option Fault
-names_refusal names = option_map (λ i. NameNotNormal i) (first_place (λ t. not (normal_name (text_bytes t))) names)
+names_refusal names = option_map (λ i. NameNotNormal i) (position_from (λ t. not (normal_name (text_bytes t))) 0 names)
 
 abbrev pub unless_refused : Option Fault → Meaning → Result Meaning Fault
 unless_refused None m = Ok m

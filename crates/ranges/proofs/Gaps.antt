@@ -2,7 +2,7 @@
 use Rattle.std.proofs.Common.{◌≡◌, ℕ, zero, suc, ◌+◌, ◌-◌, ◌<◌, ◌≤◌, Bool, true, false, cond, not, ◌⊎◌, List, [], ◌∷◌, length, get_or, is_some, Some, None, Option, sym, refl, ap, ◌∙◌, subst, inl, inr, le_of_suc-le-suc, not-suc-le-zero, arith}
 use Rattle.std.proofs.lemmas.Bool.{cases_lt, cases_Bool, both_ways}
 use Rattle.values.specs.Rows.{Row}
-use Rattle.values.specs.declared.bounds.Bound.{Bound}
+use Rattle.std.specs.declared.ops.Bound.{Bound}
 use Rattle.values.proofs.Firsts.{some_none, some_same}
 use Rattle.ranges.specs.Bounds.{unbounded, meet}
 use Rattle.ranges.specs.Cover.{go_on, cover, continues, uncovered_from, uncovered, no_edge, before, Gap, Placed}

@@ -1,11 +1,12 @@
 -- Each value lies in exactly one edge.
-use Rattle.std.proofs.Common.{◌≡◌, suc, Bool, true, false, not, ◌&&◌, ◌||◌, ◌⊎◌, List, [], ◌∷◌, Ordering, Less, Equal, Greater, sym, refl, ap, ◌∙◌, inl, inr, true≢false}
+use Rattle.std.proofs.Common.{◌≡◌, suc, ◌+◌, Bool, true, false, cond, not, ◌&&◌, ◌||◌, ◌⊎◌, List, [], ◌∷◌, Ordering, Less, Equal, Greater, sym, refl, ap, ◌∙◌, inl, inr, true≢false}
 use Rattle.std.proofs.lemmas.Bool.{cases_Bool, and_parts, or_parts, or_left, or_right, both_ways}
 use Rattle.std.specs.Ordering.{ordering_reverse, is_eq, is_lt, is_le, is_gt, is_ge}
-use Rattle.values.specs.declared.bounds.Bound.{Bound}
-use Rattle.values.specs.declared.bounds.Bound.TheVariants.{Unbounded, Included, Excluded}
+use Rattle.std.specs.declared.ops.Bound.{Bound}
+use Rattle.std.specs.declared.ops.Bound.TheVariants.{Unbounded, Included, Excluded}
 use Rattle.ranges.specs.declared.edges.Edge.{Edge}
-use Rattle.values.specs.Lists.{any, times}
+use Rattle.std.proofs.lemmas.List.Sums.{sum_by-cons}
+use Rattle.std.specs.List.{list_any, count_by}
 use Rattle.values.specs.Rows.{Row, by_row}
 use Rattle.ranges.specs.Bounds.{unbounded, above, below, lies, empty, empty_edge, meet, HoldsNothing}
 use Rattle.ranges.specs.Cover.{go_on, Parted}
@@ -49,6 +50,10 @@ le_less v x y p q = elim (cases_order (by_row v x)) [
   | inr c ↦ elim c [ inl e ↦ row_alike v x y e ∙ q | inr e ↦ absurd (true≢false (sym (ap is_gt e) ∙ p)) ]
 ]
 
+-- one element more is counted
+counted : {X : Type 0} (p : X → Bool) (x : X) (xs : List X) → count_by p (x ∷ xs) ≡ cond (p x) 1 0 + count_by p xs
+counted p x xs = sum_by-cons (λ y. cond (p y) 1 0) x xs
+
 module _ {T : Type 0} (row : T → Row) (v : Row) where
   -- a range that is not empty: no value fails both of its bounds
   pub wide : (l u : Bound T) → empty row l u ≡ false → (above row l v || below row u v) ≡ true
@@ -81,35 +86,35 @@ module _ {T : Type 0} (row : T → Row) (v : Row) where
   free_below (Excluded x) h = absurd (true≢false (sym h))
 
   -- where v is below the bound, it lies in no edge behind it
-  pub none_behind : (u : Bound T) (es : List (Edge T)) → below row u v ≡ true → any (empty_edge row) es ≡ false → go_on row u es ≡ true → times (λ e. lies row e v) es ≡ 0
+  pub none_behind : (u : Bound T) (es : List (Edge T)) → below row u v ≡ true → list_any (empty_edge row) es ≡ false → go_on row u es ≡ true → count_by (λ e. lies row e v) es ≡ 0
   none_behind u [] b w g = refl
   none_behind u (e ∷ es) b w g =
-      let w' = or_parts (empty row e.lower e.upper) (any (empty_edge row) es) w in
+      let w' = or_parts (empty row e.lower e.upper) (list_any (empty_edge row) es) w in
       let g' = and_parts (meet row u e.lower) (go_on row e.upper es) g in
       let low : above row e.lower v ≡ false = met u e.lower g'.0 ∙ ap not b in
       let high : below row e.upper v ≡ true = ap (λ z. z || below row e.upper v) (sym low) ∙ wide e.lower e.upper w'.0 in
       rw low (none_behind e.upper es high w'.1 g'.1)
 
   -- where v is not below the bound, it lies in exactly one
-  pub one_behind : (u : Bound T) (es : List (Edge T)) → below row u v ≡ false → any (empty_edge row) es ≡ false → go_on row u es ≡ true → times (λ e. lies row e v) es ≡ 1
+  pub one_behind : (u : Bound T) (es : List (Edge T)) → below row u v ≡ false → list_any (empty_edge row) es ≡ false → go_on row u es ≡ true → count_by (λ e. lies row e v) es ≡ 1
   one_behind u [] b w g = absurd (both_ways (below row u v) b (free_below u g))
   one_behind u (e ∷ es) b w g =
-      let w' = or_parts (empty row e.lower e.upper) (any (empty_edge row) es) w in
+      let w' = or_parts (empty row e.lower e.upper) (list_any (empty_edge row) es) w in
       let g' = and_parts (meet row u e.lower) (go_on row e.upper es) g in
       let low : above row e.lower v ≡ true = met u e.lower g'.0 ∙ ap not b in
       elim (cases_Bool (below row e.upper v)) [
-        | inl h ↦ rw (low, h) (ap suc (none_behind e.upper es h w'.1 g'.1))
+        | inl h ↦ counted (λ d. lies row d v) e es ∙ rw (low, h) (ap (λ n. 1 + n) (none_behind e.upper es h w'.1 g'.1))
         | inr h ↦ rw (low, h) (one_behind e.upper es h w'.1 g'.1)
       ]
 
 pub parted : {T : Type 0} (row : T → Row) (es : List (Edge T)) → Parted row es
 parted row [] w g v = absurd (true≢false (sym g))
 parted row (e ∷ es) w g v =
-    let w' = or_parts (empty row e.lower e.upper) (any (empty_edge row) es) w in
+    let w' = or_parts (empty row e.lower e.upper) (list_any (empty_edge row) es) w in
     let g' = and_parts (unbounded e.lower) (go_on row e.upper es) g in
     let low : above row e.lower v ≡ true = free_above row v e.lower g'.0 in
     elim (cases_Bool (below row e.upper v)) [
-      | inl h ↦ rw (low, h) (ap suc (none_behind row v e.upper es h w'.1 g'.1))
+      | inl h ↦ counted (λ d. lies row d v) e es ∙ rw (low, h) (ap (λ n. 1 + n) (none_behind row v e.upper es h w'.1 g'.1))
       | inr h ↦ rw (low, h) (one_behind row v e.upper es h w'.1 g'.1)
     ]
 

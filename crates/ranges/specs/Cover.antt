@@ -1,9 +1,9 @@
 -- Edges that cover the line: each value lies in exactly one of them.
 use Rattle.std.specs.Prelude.{◌≡◌, ℕ, zero, suc, ◌+◌, ◌-◌, ◌<◌, ◌≤◌, Bool, true, false, cond, not, ◌&&◌, ◌⊎◌, List, [], ◌∷◌, length, is_some, Some, None, Option, slice_index_or}
-use Rattle.values.specs.Lists.{any, times}
+use Rattle.std.specs.List.{list_any, count_by}
 use Rattle.values.specs.Rows.{Row}
-use Rattle.values.specs.declared.bounds.Bound.{Bound}
-use Rattle.values.specs.declared.bounds.Bound.TheVariants.{Unbounded}
+use Rattle.std.specs.declared.ops.Bound.{Bound}
+use Rattle.std.specs.declared.ops.Bound.TheVariants.{Unbounded}
 use Rattle.ranges.specs.Bounds.{unbounded, lies, empty_edge, meet}
 use Rattle.ranges.specs.declared.edges.Edge.{Edge}
 
@@ -19,7 +19,7 @@ cover row (e ∷ es) = unbounded e.lower && go_on row e.upper es
 
 -- THE LAW of ranges: edges that cover the line, of which no range is empty, have each value in exactly one of them
 abbrev pub Parted : {T : Type 0} → (T → Row) → List (Edge T) → Type 0
-Parted row es = any (empty_edge row) es ≡ false → cover row es ≡ true → (v : Row) → times (λ e. lies row e v) es ≡ 1
+Parted row es = list_any (empty_edge row) es ≡ false → cover row es ≡ true → (v : Row) → count_by (λ e. lies row e v) es ≡ 1
 
 -- a lower bound is right behind the upper bound before it, if there is one
 abbrev pub continues : {T : Type 0} → (T → Row) → Option (Bound T) → Bound T → Bool

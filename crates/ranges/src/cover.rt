@@ -3,7 +3,7 @@ ghost use Rattle.std.specs.Option.{option_map};
 ghost use Rattle.ranges.specs.Cover.{continues as does_continue, closed, uncovered, Parted, Placed};
 
 use crate::edges::Edge;
-use values::bounds::Bound;
+use std::ops::Bound;
 use values::orders::Order;
 
 // Whether a lower bound is right behind the upper bound before it, if there is one.
@@ -12,8 +12,8 @@ fn continues<T: Order>(before: Option<&Bound<T>>, lower: &Bound<T>) -> bool
 {
     match (before, lower) {
         (None, Bound::Unbounded) => true,
-        (Some(Bound::Included(x)), Bound::Excluded(y)) => x.compare(y).is_eq(),
-        (Some(Bound::Excluded(x)), Bound::Included(y)) => x.compare(y).is_eq(),
+        (Some(Bound::Included(x)), Bound::Excluded(y))
+        | (Some(Bound::Excluded(x)), Bound::Included(y)) => x == y,
         _ => false,
     }
 }
@@ -22,10 +22,7 @@ fn continues<T: Order>(before: Option<&Bound<T>>, lower: &Bound<T>) -> bool
 fn is_closed<T>(last: Option<&Bound<T>>) -> bool
     ensures { result ≡ closed (option_map (λ x. x.now) last.entry) }
 {
-    match last {
-        Some(Bound::Unbounded) => true,
-        _ => false,
-    }
+    matches!(last, Some(Bound::Unbounded))
 }
 
 // Where edges do not cover the line: the first whose lower bound is wrong, else the last.

@@ -1,9 +1,9 @@
 ghost use Rattle.std.specs.Prelude.{◌≡◌, length};
-ghost use Rattle.values.specs.Lists.{first_place};
+ghost use Rattle.std.specs.List.{position_from};
 ghost use Rattle.ranges.specs.Bounds.{above, below, lies, empty, empty_edge, HoldsNothing};
 
 use crate::points::Point;
-use values::bounds::Bound;
+use std::ops::Bound;
 use values::orders::Order;
 
 // A range of values, and the id that they lead to.
@@ -36,12 +36,9 @@ fn are_empty<T: Order>(lower: &Bound<T>, upper: &Bound<T>) -> bool
     ensures { result ≡ empty T.Order.row lower.now upper.now }
 {
     match (lower, upper) {
-        (Bound::Included(x), Bound::Included(y)) => x.compare(y).is_gt(),
-        (Bound::Included(x), Bound::Excluded(y)) => x.compare(y).is_ge(),
-        (Bound::Excluded(x), Bound::Included(y)) => x.compare(y).is_ge(),
-        (Bound::Excluded(x), Bound::Excluded(y)) => x.compare(y).is_ge(),
-        (Bound::Unbounded, _) => false,
-        (_, Bound::Unbounded) => false,
+        (Bound::Unbounded, _) | (_, Bound::Unbounded) => false,
+        (Bound::Included(x), Bound::Included(y)) => x > y,
+        (Bound::Included(x) | Bound::Excluded(x), Bound::Included(y) | Bound::Excluded(y)) => x >= y,
     }
 }
 
@@ -69,12 +66,7 @@ fn is_below<T: Order, V: Point<T>>(upper: &Bound<T>, value: &V) -> bool
 
 // The place of the first edge whose range is empty.
 pub fn first_empty<T: Order>(edges: &[Edge<T>]) -> Option<usize>
-    ensures { result ≡ first_place (empty_edge T.Order.row) edges.now }
+    ensures { result ≡ position_from (empty_edge T.Order.row) 0 edges.now }
 {
-    for (place, edge) in edges.iter().enumerate() {
-        if edge.is_empty() {
-            return Some(place);
-        }
-    }
-    None
+    edges.iter().position(|edge| edge.is_empty())
 }

@@ -20,7 +20,7 @@ impl Point<Release> for Release {
     ghost at = { release_row };
 
     fn against(&self, value: &Release) -> Ordering {
-        self.compare(value)
+        self.cmp(value)
     }
 }
 
@@ -34,6 +34,6 @@ impl Point<Text> for HostText<'_> {
     ghost at = { λ h. h.bytes.now };
 
     fn against(&self, value: &Text) -> Ordering {
-        Ord::cmp(&self.bytes, &value.as_bytes())
+        self.bytes.cmp(value.as_bytes())
     }
 }

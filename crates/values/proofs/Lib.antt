@@ -2,4 +2,3 @@ pub mod Firsts
 pub mod Written
 pub mod Making
 pub mod Naming
-pub mod Numbering

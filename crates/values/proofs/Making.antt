@@ -1,28 +1,15 @@
 -- What making a release or a text answers.
-use Rattle.std.proofs.Common.{◌≡◌, ℕ, suc, ◌+◌, ◌-◌, ◌<◌, ◌≤◌, min, true, false, eqb, ltb, ◌⊎◌, List, [], ◌∷◌, ◌++◌, map, length, get_or, take, drop, set, replicate, Some, None, Err, Option, sym, refl, ap, ◌∙◌, subst, inl, inr, arith}
+use Rattle.std.proofs.Common.{◌≡◌, ℕ, suc, ◌+◌, ◌-◌, ◌<◌, ◌≤◌, min, true, false, eqb, ltb, ◌⊎◌, List, [], ◌∷◌, ◌++◌, map, length, get_or, take, drop, set, replicate, Some, None, Ok, Err, Option, Result, ◌≢◌, sym, refl, ap, ◌∙◌, subst, inl, inr, arith}
 use Rattle.std.proofs.lemmas.List.{take_at, take_more, set_at, take_all, length-take-le, append_assoc}
 use Rattle.std.proofs.lemmas.Bool.{cases_Bool, cases_lt, or_cases, or_parts, or_left, or_right, eqb-true, eqb-false, eq-eqb, ltb-true, ltb-false, lt-ltb, le-ltb}
-use Rattle.values.specs.Lists.{first_from, first_place}
+use Rattle.std.specs.List.{position_from}
 use Rattle.values.specs.Releases.{largest, most_numbers, release_count, release_numbers, stored_release, wrong_count, unless_large, made_release, count, large, MakesRelease}
 use Rattle.values.specs.Texts.{most_bytes, text_bytes, stored_text, made_text, MakesText}
+use Rattle.values.specs.declared.releases.Release.{Release}
+use Rattle.values.specs.declared.texts.Text.{Text}
+use Rattle.values.specs.declared.faults.Fault.{Fault}
 use Rattle.values.specs.declared.faults.Fault.TheVariants.{ReleaseCount, NumberTooLarge}
 use Rattle.values.proofs.Firsts.{first_none, first_some, first_here}
-
--- one more element copied over the zeros of a list of n places
-pub copied_more : (n : ℕ) (xs stored : List ℕ) (i : ℕ) → i < length xs → i < n → stored ≡ take i xs ++ replicate (n - i) 0 → set stored i (get_or xs i 0) ≡ take (i + 1) xs ++ replicate (n - (i + 1)) 0
-copied_more n xs stored i lt le e =
-    let p : length (take i xs) ≡ i = length-take-le i xs (omega arith) in
-    let z : n - i ≡ suc (n - (i + 1)) = omega arith in
-    ap (λ (s : List ℕ). set s i (get_or xs i 0)) (e ∙ ap (λ (m : ℕ). take i xs ++ replicate m 0) z)
-    ∙ set_at (take i xs) 0 (replicate (n - (i + 1)) 0) (get_or xs i 0) i p
-    ∙ sym (append_assoc (take i xs) (get_or xs i 0 ∷ []) (replicate (n - (i + 1)) 0))
-    ∙ ap (λ (s : List ℕ). s ++ replicate (n - (i + 1)) 0) (sym (take_more xs i 0 lt))
-
--- all elements copied
-pub copied_all : (n : ℕ) (xs stored : List ℕ) (i : ℕ) → length xs ≤ i → i ≤ length xs → stored ≡ take i xs ++ replicate (n - i) 0 → stored ≡ xs ++ replicate (n - length xs) 0
-copied_all n xs stored i le ge e =
-    let z : i ≡ length xs = omega arith in
-    e ∙ ap (λ (m : ℕ). take m xs ++ replicate (n - m) 0) z ∙ ap (λ (s : List ℕ). s ++ replicate (n - length xs) 0) (take_all (length xs) xs (omega arith))
 
 -- ---- releases
 
@@ -67,33 +54,40 @@ count_right ns some few = elim (cases_Bool (wrong_count ns)) [ inl t ↦ absurd 
 pub refused_count : (ns : List ℕ) → wrong_count ns ≡ true → Err ReleaseCount ≡ made_release ns
 refused_count ns e = rw e
 
-pub answered : (ns : List ℕ) (o : Option ℕ) → wrong_count ns ≡ false → first_place (ltb largest) ns ≡ o → unless_large ns o ≡ made_release ns
+pub answered : (ns : List ℕ) (o : Option ℕ) → wrong_count ns ≡ false → position_from (ltb largest) 0 ns ≡ o → unless_large ns o ≡ made_release ns
 answered ns o e f = rw (e, f)
 
 pub makes_release : (ns : List ℕ) → MakesRelease ns (made_release ns)
 makes_release ns =
     elim (cases_Bool (wrong_count ns)) [
       | inl t ↦ subst (MakesRelease ns) (refused_count ns t) (count (either (or_cases (eqb (length ns) 0) (ltb most_numbers (length ns)) t)))
-      | inr f ↦ subst (MakesRelease ns) (answered ns (first_place (ltb largest) ns) f refl) (rest (right_count ns f) (first_place (ltb largest) ns) refl)
+      | inr f ↦ subst (MakesRelease ns) (answered ns (position_from (ltb largest) 0 ns) f refl) (rest (right_count ns f) (position_from (ltb largest) 0 ns) refl)
     ]
   where
     either : (eqb (length ns) 0 ≡ true) ⊎ (ltb most_numbers (length ns) ≡ true) → (length ns ≡ 0) ⊎ (most_numbers < length ns)
     either (inl e) = inl (eqb-true (length ns) 0 e)
     either (inr l) = inr (ltb-true most_numbers (length ns) l)
 
-    rest : (1 ≤ length ns) × (length ns ≤ most_numbers) → (o : Option ℕ) → first_place (ltb largest) ns ≡ o → MakesRelease ns (unless_large ns o)
+    rest : (1 ≤ length ns) × (length ns ≤ most_numbers) → (o : Option ℕ) → position_from (ltb largest) 0 ns ≡ o → MakesRelease ns (unless_large ns o)
     rest p None e = numbers_stored ns p.0 p.1 (λ k lt. ltb-false largest (get_or ns k 0) (first_none 0 (ltb largest) 0 ns e k lt))
     rest p (Some i) e =
         let w = first_some 0 (ltb largest) ns e in
         large i p.0 p.1 w.within (ltb-true largest (get_or ns i 0) w.here) (λ k lt. ltb-false largest (get_or ns k 0) (w.earlier k lt))
 
--- the first number that is too large, where those before it were looked at
-module _ (ns : List ℕ) (i : ℕ) (some : 1 ≤ length ns) (few : length ns ≤ most_numbers) (lt : i < length ns) (left : first_from (ltb largest) i (drop i ns) ≡ first_place (ltb largest) ns) (more : largest < get_or ns i 0) where
-  pub too_large : Err (NumberTooLarge i) ≡ made_release ns
-  too_large = answered ns (Some i) (count_right ns some few) (sym left ∙ first_here 0 (ltb largest) ns i true lt (lt-ltb largest (get_or ns i 0) more))
+-- what the answer of making one says
+pub release_law : (ns : List ℕ) (r : Result Release Fault) → r ≡ made_release ns → MakesRelease ns r
+release_law ns r e = subst (MakesRelease ns) (sym e) (makes_release ns)
 
-  pub too_large_law : MakesRelease ns (Err (NumberTooLarge i))
-  too_large_law = subst (MakesRelease ns) (sym too_large) (makes_release ns)
+-- no number is too large
+pub none_large : (ns stored : List ℕ) → length ns ≢ 0 → length ns ≤ most_numbers → position_from (ltb largest) 0 ns ≡ None → stored ≡ take most_numbers ns ++ replicate (most_numbers - length ns) 0
+    → Ok (record { count = length ns; numbers = stored }) ≡ made_release ns
+none_large ns stored some few none e =
+    ap (λ (s : List ℕ). Ok (record { count = length ns; numbers = s })) (e ∙ ap (λ (xs : List ℕ). xs ++ replicate (most_numbers - length ns) 0) (take_all most_numbers ns few))
+    ∙ answered ns None (count_right ns (omega arith) few) none
+
+-- the first number that is too large
+pub one_large : (ns : List ℕ) (i : ℕ) → length ns ≢ 0 → length ns ≤ most_numbers → position_from (ltb largest) 0 ns ≡ Some i → Err (NumberTooLarge i) ≡ made_release ns
+one_large ns i some few e = answered ns (Some i) (count_right ns (omega arith) few) e
 
 -- ---- texts
 
@@ -109,3 +103,12 @@ makes_text bs =
       | inl l ↦ let e : ltb most_bytes (length bs) ≡ true = lt-ltb most_bytes (length bs) l in rw e (refl, l)
       | inr g ↦ let e : ltb most_bytes (length bs) ≡ false = le-ltb most_bytes (length bs) g in rw e (bytes_stored bs g)
     ]
+
+pub text_law : (bs : List ℕ) (r : Result Text Fault) → r ≡ made_text bs → MakesText bs r
+text_law bs r e = subst (MakesText bs) (sym e) (makes_text bs)
+
+pub none_long : (bs stored : List ℕ) → length bs ≤ most_bytes → stored ≡ take most_bytes bs ++ replicate (most_bytes - length bs) 0 → Ok (record { length = length bs; bytes = stored }) ≡ made_text bs
+none_long bs stored few e =
+    let small : ltb most_bytes (length bs) ≡ false = le-ltb most_bytes (length bs) few in
+    ap (λ (s : List ℕ). Ok (record { length = length bs; bytes = s })) (e ∙ ap (λ (xs : List ℕ). xs ++ replicate (most_bytes - length bs) 0) (take_all most_bytes bs few))
+    ∙ rw small refl

@@ -1,6 +1,8 @@
 -- Refusals: the number, the layer and the two places of each.
 use Rattle.std.specs.Prelude.{ℕ}
 use Rattle.values.specs.declared.faults.Fault.{Fault}
+use Rattle.values.specs.declared.faults.Layer.{Layer}
+use Rattle.values.specs.declared.faults.Layer.TheVariants.{Value, Edge, Node, Call}
 use Rattle.values.specs.declared.faults.Fault.TheVariants.{ReleaseCount, NumberTooLarge, TextTooLong, TooManyNodes, UnknownKind, KeyOutOfRange, ExtraNotNormal, EdgeCount, EdgesPastEnd, ChildTooLarge, EmptyRange, Uncovered, OneChild, UnknownId, HostTextTooLong, NameNotNormal, PathFull, ClausesFull}
 
 pub record Refusal : Type 0 where
@@ -12,6 +14,13 @@ pub record Refusal : Type 0 where
 
 abbrev pub refused : ℕ → ℕ → ℕ → ℕ → Refusal
 refused n l i j = record { number = n; layer = l; first = i; second = j }
+
+-- the number of a layer
+abbrev pub layer_number : Layer → ℕ
+layer_number Value = 1
+layer_number Edge = 2
+layer_number Node = 3
+layer_number Call = 4
 
 -- the number, layer and places that each case stands for
 abbrev pub refusal : Fault → Refusal

@@ -1,4 +1,3 @@
-pub mod Lists
 pub mod Rows
 pub mod Faults
 pub mod Releases
@@ -6,3 +5,4 @@ pub mod Texts
 pub mod Names
 pub mod Keys
 pub mod Lines
+pub mod Numbering

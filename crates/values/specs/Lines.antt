@@ -4,15 +4,29 @@ use Rattle.std.specs.declared.cmp.Ordering.TheVariants.{Less, Equal, Greater}
 use Rattle.std.specs.declared.cmp.Ordering.{Ordering}
 use Rattle.std.proofs.Common.{ap, subst, ◌∙◌, true≢false, inl, inr, arith}
 use Rattle.std.proofs.lemmas.List.{at_drop_more}
-use Rattle.std.specs.Cmp.{nat_cmp_total, ranks}
+use Rattle.std.specs.Cmp.{nat_cmp_total, ranks, on_total, IsTotalOrder}
 use Rattle.std.specs.Cmp.Lexicographic.{slice_cmp, lists_total}
-use Rattle.std.specs.Ordering.{MatchOrdering, ordering_reverse, ordering_then, is_lt, is_gt, nat_cmp}
+use Rattle.std.specs.Ordering.{MatchOrdering, ordering_reverse, ordering_then, is_lt, is_gt, nat_cmp, on}
 use Rattle.values.specs.Rows.{Row, by_row}
+use Rattle.values.specs.Releases.{release_row}
+use Rattle.values.specs.Texts.{text_bytes}
 use Rattle.values.specs.Rows.{Earlier}
 
 pub row_says : (xs ys : Row) (r : Ordering) → r ≡ slice_cmp nat_cmp xs ys → r ≡ by_row xs ys
 unfolding by_row
 row_says xs ys r h = h
+
+-- rows are in total order
+pub rows_total : IsTotalOrder by_row
+unfolding by_row
+rows_total = lists_total nat_cmp_total
+
+-- releases and texts are, by their rows
+pub releases_total : IsTotalOrder (on release_row by_row)
+releases_total = on_total release_row rows_total
+
+pub texts_total : IsTotalOrder (on text_bytes by_row)
+texts_total = on_total text_bytes rows_total
 
 pub row_turns : (xs ys : Row) → by_row ys xs ≡ ordering_reverse (by_row xs ys)
 unfolding by_row

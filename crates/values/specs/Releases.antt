@@ -1,6 +1,6 @@
 -- Releases: what a stored one means, how one is made, and their order in plain words.
 use Rattle.std.specs.Prelude.{◌≡◌, ℕ, ◌-◌, ◌<◌, ◌≤◌, min, max, Bool, cond, ◌||◌, ◌⊎◌, List, ◌++◌, map, length, take, replicate, Some, None, Ok, Err, Option, Result, ◌==◌, nat_lt, slice_index}
-use Rattle.values.specs.Lists.{first_place}
+use Rattle.std.specs.List.{position_from}
 use Rattle.values.specs.Rows.{Row}
 use Rattle.values.specs.declared.faults.Fault.{Fault}
 use Rattle.values.specs.declared.faults.Fault.TheVariants.{ReleaseCount, NumberTooLarge}
@@ -53,7 +53,7 @@ unless_large ns (Some i) = Err (NumberTooLarge i)
 
 -- THE ANSWER of making a release from a list of numbers
 abbrev pub made_release : List ℕ → Result Release Fault
-made_release ns = cond (wrong_count ns) (Err ReleaseCount) (unless_large ns (first_place (nat_lt largest) ns))
+made_release ns = cond (wrong_count ns) (Err ReleaseCount) (unless_large ns (position_from (nat_lt largest) 0 ns))
 
 -- the refusals that are right for a list of numbers, and where
 pub data RefusedRelease (ns : List ℕ) : Fault → Type 0 where

@@ -1,7 +1,2 @@
 // An end of a range.
-#[derive(Clone, Copy)]
-pub enum Bound<T> {
-    Unbounded,
-    Included(T),
-    Excluded(T),
-}
+pub use std::ops::Bound;

@@ -1,9 +1,9 @@
 ghost use Rattle.std.specs.Prelude.{◌≡◌};
-ghost use Rattle.values.specs.Faults.{refusal};
+ghost use Rattle.values.specs.Faults.{refusal, layer_number};
 
 // What is wrong, and where. A node is given by its place in the list of nodes, an edge or child by its place in its
 // node, counted from 0.
-#[derive(Clone, Copy)]
+#[derive(Clone, Copy, PartialEq, Eq)]
 pub enum Fault {
     ReleaseCount,
     NumberTooLarge { index: usize },
@@ -23,6 +23,15 @@ pub enum Fault {
     NameNotNormal { index: usize },
     PathFull,
     ClausesFull,
+}
+
+// The layer of a rule. Its number is the one that refusals tell.
+#[derive(Clone, Copy, PartialEq, Eq)]
+pub enum Layer {
+    Value = 1,
+    Edge,
+    Node,
+    Call,
 }
 
 impl Fault {
@@ -52,15 +61,21 @@ impl Fault {
         }
     }
 
-    // The layer that refuses: 1 value, 2 edge, 3 node, 4 call.
-    pub fn layer(self) -> u8
-        ensures { result ≡ (refusal self).layer }
+    // The layer that refuses.
+    pub fn layer(self) -> Layer
+        ensures { layer_number result ≡ (refusal self).layer }
     {
-        match self.number() {
-            1..=3 => 1,
-            10..=12 => 2,
-            4..=9 | 13 => 3,
-            _ => 4,
+        match self {
+            Fault::ReleaseCount | Fault::NumberTooLarge { .. } | Fault::TextTooLong => Layer::Value,
+            Fault::ChildTooLarge { .. } | Fault::EmptyRange { .. } | Fault::Uncovered { .. } => Layer::Edge,
+            Fault::TooManyNodes
+            | Fault::UnknownKind { .. }
+            | Fault::KeyOutOfRange { .. }
+            | Fault::ExtraNotNormal { .. }
+            | Fault::EdgeCount { .. }
+            | Fault::EdgesPastEnd { .. }
+            | Fault::OneChild { .. } => Layer::Node,
+            _ => Layer::Call,
         }
     }
 
@@ -69,20 +84,17 @@ impl Fault {
         ensures { result ≡ ((refusal self).first, (refusal self).second) }
     {
         match self {
-            Fault::NumberTooLarge { index } => (index, 0),
-            Fault::UnknownKind { node } => (node, 0),
-            Fault::KeyOutOfRange { node } => (node, 0),
-            Fault::ExtraNotNormal { node } => (node, 0),
-            Fault::EdgeCount { node } => (node, 0),
-            Fault::EdgesPastEnd { node } => (node, 0),
             Fault::ChildTooLarge { node, child } => (node, child),
-            Fault::EmptyRange { node, edge } => (node, edge),
-            Fault::Uncovered { node, edge } => (node, edge),
-            Fault::OneChild { node } => (node, 0),
+            Fault::EmptyRange { node, edge } | Fault::Uncovered { node, edge } => (node, edge),
+            Fault::UnknownKind { node }
+            | Fault::KeyOutOfRange { node }
+            | Fault::ExtraNotNormal { node }
+            | Fault::EdgeCount { node }
+            | Fault::EdgesPastEnd { node }
+            | Fault::OneChild { node } => (node, 0),
+            Fault::NumberTooLarge { index } | Fault::NameNotNormal { index } => (index, 0),
             Fault::HostTextTooLong { field } => (field, 0),
-            Fault::NameNotNormal { index } => (index, 0),
-            Fault::ReleaseCount | Fault::TextTooLong | Fault::TooManyNodes => (0, 0),
-            Fault::UnknownId | Fault::PathFull | Fault::ClausesFull => (0, 0),
+            _ => (0, 0),
         }
     }
 }

@@ -1,8 +1,42 @@
-ghost use Rattle.std.specs.Prelude.{◌≡◌};
-ghost use Rattle.values.specs.Keys.{version_number, version_key_of, version_name, string_number, string_key_of, string_name, Numbered};
+ghost use Rattle.std.specs.Prelude.{◌≡◌, ℕ, List, Some, slice_get};
+ghost use Rattle.values.specs.Numbering.{versions_numbered, strings_numbered};
+ghost use Rattle.values.specs.Keys.{version_keys, version_number, version_name, string_keys, string_number, string_name, Numbered};
+
+// What a node asks about: a key with its number in a table and its name in a marker.
+pub trait Key: Copy + 'static {
+    // The keys in the order of their numbers.
+    ghost keys: { List Self };
+
+    // The number that stands for a key.
+    ghost number_of: { Self → ℕ };
+
+    ghost name_of: { Self → List ℕ };
+
+    // The keys in the order of their numbers.
+    fn all() -> &'static [Self]
+        ensures { result.now ≡ keys };
+
+    // The key's number in a table.
+    fn number(self) -> u8
+        ensures { result ≡ number_of self };
+
+    // The key's name in a marker; an old spelling stays the old one.
+    fn name(self) -> &'static str
+        ensures { result.now ≡ name_of self };
+
+    ghost numbered: { Numbered number_of (λ n. slice_get keys n) };
+
+    // The key that has a number, if one has.
+    final fn from_number(number: u8) -> Option<Self>
+        ensures answer { result ≡ slice_get keys number }
+        ensures law { Numbered number_of (λ n. slice_get keys n) }
+    {
+        Self::all().get(number as usize).copied()
+    }
+}
 
 // A key whose value is a release.
-#[derive(Clone, Copy)]
+#[derive(Clone, Copy, PartialEq, Eq)]
 pub enum MarkerValueVersion {
     ImplementationVersion,
     PythonFullVersion,
@@ -16,26 +50,24 @@ const VERSION_KEYS: [MarkerValueVersion; 3] = [
     MarkerValueVersion::PythonVersion,
 ];
 
-impl MarkerValueVersion {
-    // The key that has a number, if one has.
-    pub fn from_number(number: u8) -> Option<MarkerValueVersion>
-        ensures answer { result ≡ version_key_of number }
-        ensures law { Numbered version_number version_key_of }
-    {
-        VERSION_KEYS.get(number as usize).copied()
+impl Key for MarkerValueVersion {
+    ghost number_of = { version_number };
+
+    ghost keys = { version_keys };
+
+    ghost name_of = { version_name };
+
+    ghost numbered = { versions_numbered };
+
+    fn all() -> &'static [MarkerValueVersion] {
+        &VERSION_KEYS
     }
 
-    // The key's number in a table.
-    pub fn number(self) -> u8
-        ensures { result ≡ version_number self }
-    {
+    fn number(self) -> u8 {
         self as u8
     }
 
-    // The key's name in a marker.
-    pub fn name(self) -> &'static str
-        ensures { result.now ≡ version_name self }
-    {
+    fn name(self) -> &'static str {
         match self {
             MarkerValueVersion::ImplementationVersion => "implementation_version",
             MarkerValueVersion::PythonFullVersion => "python_full_version",
@@ -45,7 +77,7 @@ impl MarkerValueVersion {
 }
 
 // A key whose value is a text. The deprecated ones are old spellings of others.
-#[derive(Clone, Copy)]
+#[derive(Clone, Copy, PartialEq, Eq)]
 pub enum MarkerValueString {
     ImplementationName,
     OsName,
@@ -81,26 +113,24 @@ const STRING_KEYS: [MarkerValueString; 14] = [
     MarkerValueString::SysPlatformDeprecated,
 ];
 
-impl MarkerValueString {
-    // The key that has a number, if one has.
-    pub fn from_number(number: u8) -> Option<MarkerValueString>
-        ensures answer { result ≡ string_key_of number }
-        ensures law { Numbered string_number string_key_of }
-    {
-        STRING_KEYS.get(number as usize).copied()
+impl Key for MarkerValueString {
+    ghost number_of = { string_number };
+
+    ghost keys = { string_keys };
+
+    ghost name_of = { string_name };
+
+    ghost numbered = { strings_numbered };
+
+    fn all() -> &'static [MarkerValueString] {
+        &STRING_KEYS
     }
 
-    // The key's number in a table.
-    pub fn number(self) -> u8
-        ensures { result ≡ string_number self }
-    {
+    fn number(self) -> u8 {
         self as u8
     }
 
-    // The key's name in a marker; an old spelling stays the old one.
-    pub fn name(self) -> &'static str
-        ensures { result.now ≡ string_name self }
-    {
+    fn name(self) -> &'static str {
         match self {
             MarkerValueString::ImplementationName => "implementation_name",
             MarkerValueString::OsName => "os_name",

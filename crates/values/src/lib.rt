@@ -6,4 +6,5 @@ pub mod faults;
 pub mod keys;
 pub mod orders;
 pub mod releases;
+pub mod stored;
 pub mod texts;

@@ -1,54 +1,40 @@
 ghost use Rattle.std.specs.Prelude.{◌≡◌, refl};
-ghost use Rattle.std.specs.declared.cmp.Ordering.TheVariants.{Less, Equal};
-ghost use Rattle.std.specs.declared.cmp.Ordering.{Ordering};
-ghost use Rattle.std.specs.Ordering.{ordering_reverse, MatchOrdering};
+ghost use Rattle.std.specs.Cmp.{partial_equiv_from_equiv, partial_order_from_total, eq_by_cmp_equiv};
+ghost use Rattle.std.specs.Ordering.{as_partial_cmp, eq_by_cmp, on, MatchOrdering};
 ghost use Rattle.values.specs.Rows.{Row, by_row, Earlier};
 ghost use Rattle.values.specs.Releases.{release_row, Before, Same};
 ghost use Rattle.values.specs.Texts.{text_bytes};
-ghost use Rattle.values.specs.Lines.{row_itself, row_turns, row_through, row_alike};
+ghost use Rattle.values.specs.Lines.{releases_total, texts_total};
 
 use crate::releases::{MOST_NUMBERS, Release};
 use crate::texts::Text;
 use std::cmp::Ordering;
 
-// Values with a place on a line: a total order.
-pub trait Order {
+// Values with a place on a line: their total order is that of the rows of numbers that they mean.
+pub trait Order: Ord {
     // The row of numbers that a value means.
     ghost row: { Self → Row };
 
-    ghost orders: { Self → Self → Ordering };
-
-    fn compare(&self, other: &Self) -> Ordering
-        ensures { result ≡ orders self.now other.now };
-
-    ghost itself: { (x : Self) → orders x x ≡ Equal };
-
-    ghost turns: { (x y : Self) → orders y x ≡ ordering_reverse (orders x y) };
-
-    ghost through: { (x y z : Self) → orders x y ≡ Less → orders y z ≡ Less → orders x z ≡ Less };
-
-    ghost alike: { (x y z : Self) → orders x y ≡ Equal → orders x z ≡ orders y z };
-
-    ghost rows: { (x y : Self) → orders x y ≡ by_row (row x) (row y) };
+    ghost rows: { (x y : Self) → Self.cmp x y ≡ by_row (row x) (row y) };
 }
 
 impl Order for Release {
     ghost row = { release_row };
 
-    ghost orders = { λ x y. by_row (release_row x) (release_row y) };
-
-    ghost itself = { λ x. row_itself (release_row x) };
-
-    ghost turns = { λ x y. row_turns (release_row x) (release_row y) };
-
-    ghost through = { λ x y z h k. row_through (release_row x) (release_row y) (release_row z) h k };
-
-    ghost alike = { λ x y z h. row_alike (release_row x) (release_row y) (release_row z) h };
-
     ghost rows = { λ x y. refl };
+}
+
+impl Ord for Release {
+    ghost cmp = { on release_row by_row };
+
+    ghost total = { releases_total };
+
+    ghost matches_partial_cmp = { λ x y. refl };
+
+    ghost matches_eq = { λ x y. refl };
 
     // Number by number, zeros filled in.
-    fn compare(&self, other: &Release) -> Ordering
+    fn cmp(&self, other: &Release) -> Ordering
         ensures value { result ≡ by_row (release_row self.now) (release_row other.now) }
         ensures words { MatchOrdering result (Before self.now other.now) (Same self.now other.now) (Before other.now self.now) }
     {
@@ -62,26 +48,74 @@ impl Order for Release {
     }
 }
 
+impl PartialOrd for Release {
+    ghost partial_cmp = { as_partial_cmp (on release_row by_row) };
+
+    ghost laws = { partial_order_from_total releases_total };
+
+    fn partial_cmp(&self, other: &Release) -> Option<Ordering> {
+        Some(self.cmp(other))
+    }
+}
+
+impl Eq for Release {
+    ghost laws = { eq_by_cmp_equiv releases_total };
+}
+
+impl PartialEq for Release {
+    ghost eq = { eq_by_cmp (on release_row by_row) };
+
+    ghost laws = { partial_equiv_from_equiv (eq_by_cmp_equiv releases_total) };
+
+    fn eq(&self, other: &Release) -> bool {
+        self.cmp(other).is_eq()
+    }
+}
+
 impl Order for Text {
     ghost row = { text_bytes };
 
-    ghost orders = { λ x y. by_row (text_bytes x) (text_bytes y) };
-
-    ghost itself = { λ x. row_itself (text_bytes x) };
-
-    ghost turns = { λ x y. row_turns (text_bytes x) (text_bytes y) };
-
-    ghost through = { λ x y z h k. row_through (text_bytes x) (text_bytes y) (text_bytes z) h k };
-
-    ghost alike = { λ x y z h. row_alike (text_bytes x) (text_bytes y) (text_bytes z) h };
-
     ghost rows = { λ x y. refl };
+}
+
+impl Ord for Text {
+    ghost cmp = { on text_bytes by_row };
+
+    ghost total = { texts_total };
+
+    ghost matches_partial_cmp = { λ x y. refl };
+
+    ghost matches_eq = { λ x y. refl };
 
     // Byte by byte, a prefix first.
-    fn compare(&self, other: &Text) -> Ordering
+    fn cmp(&self, other: &Text) -> Ordering
         ensures value { result ≡ by_row (text_bytes self.now) (text_bytes other.now) }
         ensures words { MatchOrdering result (Earlier (text_bytes self.now) (text_bytes other.now)) (text_bytes self.now ≡ text_bytes other.now) (Earlier (text_bytes other.now) (text_bytes self.now)) }
     {
-        Ord::cmp(&self.as_bytes(), &other.as_bytes())
+        self.as_bytes().cmp(other.as_bytes())
+    }
+}
+
+impl PartialOrd for Text {
+    ghost partial_cmp = { as_partial_cmp (on text_bytes by_row) };
+
+    ghost laws = { partial_order_from_total texts_total };
+
+    fn partial_cmp(&self, other: &Text) -> Option<Ordering> {
+        Some(self.cmp(other))
+    }
+}
+
+impl Eq for Text {
+    ghost laws = { eq_by_cmp_equiv texts_total };
+}
+
+impl PartialEq for Text {
+    ghost eq = { eq_by_cmp (on text_bytes by_row) };
+
+    ghost laws = { partial_equiv_from_equiv (eq_by_cmp_equiv texts_total) };
+
+    fn eq(&self, other: &Text) -> bool {
+        self.cmp(other).is_eq()
     }
 }

@@ -1,7 +1,9 @@
-ghost use Rattle.std.specs.Prelude.{◌≡◌, ℕ, ◌+◌, ◌<◌, ◌≤◌, length};
-ghost use Rattle.values.specs.Releases.{release_count, number as the_number, made_release, MakesRelease};
+ghost use Rattle.std.specs.Prelude.{◌≡◌, ℕ, ◌+◌, ◌<◌, ◌≤◌, length, nat_lt};
+ghost use Rattle.std.specs.List.{position_from};
+ghost use Rattle.values.specs.Releases.{largest, release_count, number as the_number, made_release, MakesRelease};
 
 use crate::faults::Fault;
+use crate::stored::padded;
 
 // The largest number of a release.
 pub const LARGEST: u64 = 18446744073709551614;
@@ -16,9 +18,15 @@ pub struct Release {
     pub numbers: [u64; 8],
 }
 
+// The place of the first number that is too large.
+fn first_too_large(numbers: &[u64]) -> Option<usize>
+    ensures { result ≡ position_from (nat_lt largest) 0 numbers.now }
+{
+    numbers.iter().position(|number| *number > LARGEST)
+}
+
 impl Release {
     // The release of a list of numbers: refusal 1 for a wrong count, then 2.
-    #[tactic(auto, using(crate::proofs::Making::too_large, crate::proofs::Making::too_large_law))]
     pub fn new(numbers: &[u64]) -> Result<Release, Fault>
         ensures answer { result ≡ made_release numbers.now }
         ensures law { MakesRelease numbers.now result }
@@ -26,16 +34,12 @@ impl Release {
         if numbers.is_empty() || numbers.len() > MOST_NUMBERS {
             return Err(Fault::ReleaseCount);
         }
-        let mut stored = [0; 8];
-        for (index, number) in numbers.iter().enumerate() {
-            if *number > LARGEST {
-                return Err(Fault::NumberTooLarge { index });
-            }
-            stored[index] = *number;
+        if let Some(index) = first_too_large(numbers) {
+            return Err(Fault::NumberTooLarge { index });
         }
         Ok(Release {
             count: numbers.len() as u8,
-            numbers: stored,
+            numbers: padded(numbers, 0),
         })
     }
 

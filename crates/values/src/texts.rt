@@ -3,6 +3,7 @@ ghost use Rattle.values.specs.Texts.{text_bytes, made_text, MakesText};
 ghost use Rattle.values.specs.Names.{normal_name, may_come_next, Normal};
 
 use crate::faults::Fault;
+use crate::stored::padded;
 
 // How many bytes a text has at most.
 pub const MOST_BYTES: usize = 64;
@@ -23,13 +24,9 @@ impl Text {
         if bytes.len() > MOST_BYTES {
             return Err(Fault::TextTooLong);
         }
-        let mut stored = [0; 64];
-        for (index, byte) in bytes.iter().enumerate() {
-            stored[index] = *byte;
-        }
         Ok(Text {
             length: bytes.len() as u8,
-            bytes: stored,
+            bytes: padded(bytes, 0),
         })
     }
 

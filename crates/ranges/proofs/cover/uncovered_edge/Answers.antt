@@ -2,7 +2,7 @@ use Rattle.std.proofs.Common.{◌≡◌, ℕ, ◌+◌, ◌-◌, ◌<◌, ◌≤�
 use Rattle.std.specs.Option.{option_map}
 use Rattle.std.proofs.lemmas.List.{at_drop_all}
 use Rattle.values.specs.Rows.{Row}
-use Rattle.values.specs.declared.bounds.Bound.{Bound}
+use Rattle.std.specs.declared.ops.Bound.{Bound}
 use Rattle.ranges.specs.Cover.{continues, closed, uncovered_from, uncovered}
 use Rattle.ranges.specs.declared.edges.Edge.{Edge}
 use Rattle.ranges.proofs.Steps.{at_read}

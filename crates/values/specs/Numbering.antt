@@ -9,7 +9,6 @@ use Rattle.values.specs.declared.keys.MarkerValueVersion.{MarkerValueVersion}
 use Rattle.values.specs.declared.keys.MarkerValueVersion.TheVariants.{ImplementationVersion, PythonFullVersion, PythonVersion}
 use Rattle.values.specs.declared.keys.MarkerValueString.{MarkerValueString}
 use Rattle.values.specs.declared.keys.MarkerValueString.TheVariants.{ImplementationName, OsName, OsNameDeprecated, PlatformMachine, PlatformMachineDeprecated, PlatformPythonImplementation, PlatformPythonImplementationDeprecated, PythonImplementationDeprecated, PlatformRelease, PlatformSystem, PlatformVersion, PlatformVersionDeprecated, SysPlatform, SysPlatformDeprecated}
-use Rattle.values.proofs.Firsts.{some_none, some_same}
 
 -- the keys of a list have the numbers from i on, in order
 abbrev Listed : {K : Type 0} → (K → ℕ) → ℕ → List K → Type 0
@@ -17,8 +16,8 @@ Listed number i [] = Unit {0}
 Listed number i (k ∷ ks) = (number k ≡ i) × Listed number (suc i) ks
 
 listed_only : {K : Type 0} (number : K → ℕ) (i : ℕ) (ks : List K) → Listed number i ks → (n : ℕ) (k : K) → slice_get ks n ≡ Some k → number k ≡ i + n
-listed_only number i [] l n k e = absurd (some_none (sym e))
-listed_only number i (k' ∷ ks) l zero k e = let z : i ≡ i + 0 = omega arith in ap number (sym (some_same e)) ∙ l.0 ∙ z
+listed_only number i [] l n k e = cc
+listed_only number i (k' ∷ ks) l zero k e = let z : i ≡ i + 0 = omega arith in let same : k' ≡ k = cc in ap number (sym same) ∙ l.0 ∙ z
 listed_only number i (k' ∷ ks) l (suc n) k e = let z : suc i + n ≡ i + suc n = omega arith in listed_only number (suc i) ks l.1 n k e ∙ z
 
 only : {K : Type 0} (number : K → ℕ) (ks : List K) → Listed number 0 ks → (n : ℕ) (k : K) → slice_get ks n ≡ Some k → number k ≡ n
@@ -50,8 +49,3 @@ versions_numbered = record { reads = version_reads; only = only version_number v
 
 pub strings_numbered : Numbered string_number string_key_of
 strings_numbered = record { reads = string_reads; only = only string_number string_keys (refl, (refl, (refl, (refl, (refl, (refl, (refl, (refl, (refl, (refl, (refl, (refl, (refl, (refl, tt)))))))))))))) }
-
--- what `get` finds in a list of keys
-pub picked : {K : Type 0} (ks : List K) (n : ℕ) (r : Option (Bor K)) → IsGetResult ks n n r → option_map (λ x. x.now) r ≡ slice_get ks n
-picked ks n None h = sym (slice_get_past ks n h.3)
-picked ks n (Some x) h = ap Some (h.3.1 x.now) ∙ sym (slice_get-get_or ks n x.now h.3.0)

@@ -6,7 +6,7 @@ use Rattle.values.specs.Releases.{most_numbers, release_row, number, Before, Sam
 use Rattle.values.specs.declared.releases.Release.{Release}
 use Rattle.values.specs.Lines.{row_step, row_itself, differs}
 use Rattle.values.proofs.Written.{length-row, row_number, release_words}
-use Rattle.values.proofs.orders.ReleaseOrder.compare.Goals as goal
+use Rattle.values.proofs.orders.ReleaseOrd.cmp.Goals as goal
 
 told : (a b : Release) (o : Ordering) → o ≡ by_row (release_row a) (release_row b) → MatchOrdering o (Before a b) (Same a b) (Before b a)
 told a b o e = subst (λ (k : Ordering). MatchOrdering k (Before a b) (Same a b) (Before b a)) (sym e) (release_words a b)
