@@ -12,6 +12,7 @@ use Rattle.values.specs.Releases.{release_row}
 use Rattle.values.specs.Texts.{text_bytes}
 use Rattle.values.specs.Rows.{Earlier}
 
+-- the library compares slices so
 pub row_says : (xs ys : Row) (r : Ordering) → r ≡ slice_cmp nat_cmp xs ys → r ≡ by_row xs ys
 unfolding by_row
 row_says xs ys r h = h
@@ -27,21 +28,6 @@ releases_total = on_total release_row rows_total
 
 pub texts_total : IsTotalOrder (on text_bytes by_row)
 texts_total = on_total text_bytes rows_total
-
-pub row_turns : (xs ys : Row) → by_row ys xs ≡ ordering_reverse (by_row xs ys)
-unfolding by_row
-row_turns xs ys = (lists_total nat_cmp_total).antisymm ys xs
-
-pub row_through : (xs ys zs : Row) → by_row xs ys ≡ Less → by_row ys zs ≡ Less → by_row xs zs ≡ Less
-unfolding by_row
-row_through xs ys zs h k = (lists_total nat_cmp_total).trans xs ys zs h k
-
-pub row_alike : (xs ys zs : Row) → by_row xs ys ≡ Equal → by_row xs zs ≡ by_row ys zs
-unfolding by_row
-row_alike xs ys zs h = (lists_total nat_cmp_total).congr xs ys zs h
-
-rank_is : (x y : ℕ) (o : Ordering) → nat_cmp x y ≡ o → MatchOrdering o (x < y) (x ≡ y) (y < x)
-rank_is x y o e = subst (λ k. MatchOrdering k (x < y) (x ≡ y) (y < x)) e (ranks x y)
 
 pub cons_earlier : (x : ℕ) (xs ys : Row) → Earlier xs ys → Earlier (x ∷ xs) (x ∷ ys)
 cons_earlier x xs ys e = record {
@@ -77,14 +63,6 @@ by_words xs ys = row_words xs ys
 pub row_same : (xs ys : Row) → by_row xs ys ≡ Equal → xs ≡ ys
 row_same xs ys e = subst (λ o. MatchOrdering o (Earlier xs ys) (xs ≡ ys) (Earlier ys xs)) e (by_words xs ys)
 
-pub row_itself : (xs : Row) → by_row xs xs ≡ Equal
-row_itself xs = mirror (by_row xs xs) (row_turns xs xs)
-  where
-    mirror : (o : Ordering) → o ≡ ordering_reverse o → o ≡ Equal
-    mirror Less e = absurd (true≢false (ap is_lt e))
-    mirror Equal e = refl
-    mirror Greater e = absurd (true≢false (ap is_gt e))
-
 -- one number on, where both rows have one
 pub row_step : (xs ys : Row) (i x y : ℕ) → i < length xs → i < length ys → slice_index xs i ≡ x → slice_index ys i ≡ y → by_row (drop i xs) (drop i ys) ≡ ordering_then (nat_cmp x y) (by_row (drop (i + 1) xs) (drop (i + 1) ys))
 unfolding by_row
@@ -92,20 +70,6 @@ row_step xs ys i x y h k p q =
     at_drop_more (λ zs. slice_cmp nat_cmp zs (drop i ys)) xs i 0 h
     ∙ at_drop_more (λ zs. slice_cmp nat_cmp (slice_index xs i ∷ drop (i + 1) xs) zs) ys i 0 k
     ∙ rw (p, q)
-
-pub rank_says : (x y : ℕ) (o : Ordering) → MatchOrdering o (x < y) (x ≡ y) (y < x) → nat_cmp x y ≡ o
-rank_says x y o h = ranked_same x y (nat_cmp x y) o (ranks x y) h
-  where
-    ranked_same : (x y : ℕ) (p o : Ordering) → MatchOrdering p (x < y) (x ≡ y) (y < x) → MatchOrdering o (x < y) (x ≡ y) (y < x) → p ≡ o
-    ranked_same x y Less Less h k = refl
-    ranked_same x y Less Equal h k = absurd (omega arith)
-    ranked_same x y Less Greater h k = absurd (omega arith)
-    ranked_same x y Equal Less h k = absurd (omega arith)
-    ranked_same x y Equal Equal h k = refl
-    ranked_same x y Equal Greater h k = absurd (omega arith)
-    ranked_same x y Greater Less h k = absurd (omega arith)
-    ranked_same x y Greater Equal h k = absurd (omega arith)
-    ranked_same x y Greater Greater h k = refl
 
 -- the first numbers that differ decide
 pub differs : (o rest : Ordering) → (o ≢ Equal) → ordering_then o rest ≡ o

@@ -67,7 +67,8 @@ impl Fault {
     {
         match self {
             Fault::ReleaseCount | Fault::NumberTooLarge { .. } | Fault::TextTooLong => Layer::Value,
-            Fault::ChildTooLarge { .. } | Fault::EmptyRange { .. } | Fault::Uncovered { .. } => Layer::Edge,
+            Fault::ChildTooLarge { .. } | Fault::EmptyRange { .. } | Fault::Uncovered { .. } =>
+                Layer::Edge,
             Fault::TooManyNodes
             | Fault::UnknownKind { .. }
             | Fault::KeyOutOfRange { .. }

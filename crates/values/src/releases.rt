@@ -1,9 +1,14 @@
-ghost use Rattle.std.specs.Prelude.{◌≡◌, ℕ, ◌+◌, ◌<◌, ◌≤◌, length, nat_lt};
+ghost use Rattle.std.specs.Cmp.{partial_equiv_from_equiv, partial_order_from_total, eq_by_cmp_equiv};
+ghost use Rattle.std.specs.Ordering.{as_partial_cmp, eq_by_cmp, on, MatchOrdering};
+ghost use Rattle.std.specs.Prelude.{◌≡◌, refl, ℕ, ◌+◌, ◌<◌, ◌≤◌, length, nat_lt};
 ghost use Rattle.std.specs.List.{position_from};
-ghost use Rattle.values.specs.Releases.{largest, release_count, number as the_number, made_release, MakesRelease};
+ghost use Rattle.values.specs.Rows.{by_row};
+ghost use Rattle.values.specs.Lines.{releases_total};
+ghost use Rattle.values.specs.Releases.{largest, release_row, Before, Same, release_count, number as the_number, made_release, MakesRelease};
 
 use crate::faults::Fault;
 use crate::stored::padded;
+use std::cmp::Ordering;
 
 // The largest number of a release.
 pub const LARGEST: u64 = 18446744073709551614;
@@ -59,5 +64,53 @@ impl Release {
         } else {
             0
         }
+    }
+}
+
+impl Ord for Release {
+    ghost cmp = { on release_row by_row };
+
+    ghost total = { releases_total };
+
+    ghost matches_partial_cmp = { λ x y. refl };
+
+    ghost matches_eq = { λ x y. refl };
+
+    // Number by number, zeros filled in.
+    fn cmp(&self, other: &Release) -> Ordering
+        ensures value { result ≡ by_row (release_row self.now) (release_row other.now) }
+        ensures words { MatchOrdering result (Before self.now other.now) (Same self.now other.now) (Before other.now self.now) }
+    {
+        for place in 0..MOST_NUMBERS {
+            match self.number(place).cmp(&other.number(place)) {
+                Ordering::Equal => {}
+                different => return different,
+            }
+        }
+        Ordering::Equal
+    }
+}
+
+impl PartialOrd for Release {
+    ghost partial_cmp = { as_partial_cmp (on release_row by_row) };
+
+    ghost laws = { partial_order_from_total releases_total };
+
+    fn partial_cmp(&self, other: &Release) -> Option<Ordering> {
+        Some(self.cmp(other))
+    }
+}
+
+impl Eq for Release {
+    ghost laws = { eq_by_cmp_equiv releases_total };
+}
+
+impl PartialEq for Release {
+    ghost eq = { eq_by_cmp (on release_row by_row) };
+
+    ghost laws = { partial_equiv_from_equiv (eq_by_cmp_equiv releases_total) };
+
+    fn eq(&self, other: &Release) -> bool {
+        self.cmp(other).is_eq()
     }
 }

@@ -1,9 +1,14 @@
-ghost use Rattle.std.specs.Prelude.{◌≡◌, true, false, length, Decides};
+ghost use Rattle.std.specs.Cmp.{partial_equiv_from_equiv, partial_order_from_total, eq_by_cmp_equiv};
+ghost use Rattle.std.specs.Ordering.{as_partial_cmp, eq_by_cmp, on, MatchOrdering};
+ghost use Rattle.std.specs.Prelude.{◌≡◌, refl, true, false, length, Decides};
+ghost use Rattle.values.specs.Rows.{by_row, Earlier};
+ghost use Rattle.values.specs.Lines.{texts_total};
 ghost use Rattle.values.specs.Texts.{text_bytes, made_text, MakesText};
 ghost use Rattle.values.specs.Names.{normal_name, may_come_next, Normal};
 
 use crate::faults::Fault;
 use crate::stored::padded;
+use std::cmp::Ordering;
 
 // How many bytes a text has at most.
 pub const MOST_BYTES: usize = 64;
@@ -34,7 +39,7 @@ impl Text {
         ensures { result.now ≡ text_bytes self.now }
     {
         let end = (self.length as usize).min(MOST_BYTES);
-        &self.bytes[0..end]
+        &self.bytes[..end]
     }
 
     // Whether the text is a normal name of an extra.
@@ -50,6 +55,48 @@ impl Text {
             barred = *byte == b'-';
         }
         !barred
+    }
+}
+
+impl Ord for Text {
+    ghost cmp = { on text_bytes by_row };
+
+    ghost total = { texts_total };
+
+    ghost matches_partial_cmp = { λ x y. refl };
+
+    ghost matches_eq = { λ x y. refl };
+
+    // Byte by byte, a prefix first.
+    fn cmp(&self, other: &Text) -> Ordering
+        ensures value { result ≡ by_row (text_bytes self.now) (text_bytes other.now) }
+        ensures words { MatchOrdering result (Earlier (text_bytes self.now) (text_bytes other.now)) (text_bytes self.now ≡ text_bytes other.now) (Earlier (text_bytes other.now) (text_bytes self.now)) }
+    {
+        self.as_bytes().cmp(other.as_bytes())
+    }
+}
+
+impl PartialOrd for Text {
+    ghost partial_cmp = { as_partial_cmp (on text_bytes by_row) };
+
+    ghost laws = { partial_order_from_total texts_total };
+
+    fn partial_cmp(&self, other: &Text) -> Option<Ordering> {
+        Some(self.cmp(other))
+    }
+}
+
+impl Eq for Text {
+    ghost laws = { eq_by_cmp_equiv texts_total };
+}
+
+impl PartialEq for Text {
+    ghost eq = { eq_by_cmp (on text_bytes by_row) };
+
+    ghost laws = { partial_equiv_from_equiv (eq_by_cmp_equiv texts_total) };
+
+    fn eq(&self, other: &Text) -> bool {
+        self.cmp(other).is_eq()
     }
 }
 

@@ -3,7 +3,7 @@ use Rattle.std.specs.Ordering.{MatchOrdering}
 use Rattle.values.specs.Rows.{Row, by_row, Earlier}
 use Rattle.values.specs.Texts.{text_bytes}
 use Rattle.values.specs.Lines.{row_says, by_words}
-use Rattle.values.proofs.orders.TextOrd.cmp.Goals as goal
+use Rattle.values.proofs.texts.TextOrd.cmp.Goals as goal
 
 pub returns : goal.returns
 returns c =

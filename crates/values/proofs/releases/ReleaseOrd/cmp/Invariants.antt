@@ -1,7 +1,7 @@
 use Rattle.std.proofs.Common.{◌≡◌, drop}
 use Rattle.values.specs.Rows.{by_row}
 use Rattle.values.specs.Releases.{release_row}
-use Rattle.values.proofs.orders.ReleaseOrd.cmp.Given as goal
+use Rattle.values.proofs.releases.ReleaseOrd.cmp.Given as goal
 
 -- the numbers that are left decide
 abbrev pub invariant-loop-place : goal.invariant-loop-place
