@@ -1,4 +1,5 @@
 -- The record of a host: what it stores, what it means, and how one is made.
+use Rattle.std.specs.Borrow.{Bor}
 use Rattle.std.specs.Prelude.{ℕ, Bool, cond, not, List, length, take, Some, None, Ok, Err, Option, Result, nat_lt}
 use Rattle.std.specs.Option.{option_map, option_or}
 use Rattle.std.specs.Ordering.{is_eq}
@@ -6,6 +7,7 @@ use Rattle.std.specs.List.{list_any, position_from}
 use Rattle.values.specs.Rows.{by_row}
 use Rattle.values.specs.Texts.{text_bytes}
 use Rattle.values.specs.Names.{normal_name}
+use Rattle.values.specs.Faults.{unless_refused}
 use Rattle.values.specs.declared.faults.Fault.{Fault}
 use Rattle.values.specs.declared.faults.Fault.TheVariants.{HostTextTooLong, NameNotNormal}
 use Rattle.values.specs.declared.keys.MarkerValueVersion.{MarkerValueVersion}
@@ -58,28 +60,32 @@ text_at a b c d e f g h PlatformVersionDeprecated = g
 text_at a b c d e f g h SysPlatform = h
 text_at a b c d e f g h SysPlatformDeprecated = h
 
--- what fields and names mean
-abbrev pub fields_meaning : Fields → List Text → Meaning
-fields_meaning f names = record {
+-- what fields and names mean, where `bytes` says what a text is
+abbrev pub meaning_of : {T : Type 0} → (T → List ℕ) → Fields T → List Text → Meaning
+meaning_of bytes f names = record {
   release = release_at f.implementation_version f.python_full_version f.python_version;
-  text = text_at f.implementation_name.now f.os_name.now f.platform_machine.now f.platform_python_implementation.now f.platform_release.now f.platform_system.now f.platform_version.now f.sys_platform.now;
+  text = text_at (bytes f.implementation_name) (bytes f.os_name) (bytes f.platform_machine) (bytes f.platform_python_implementation) (bytes f.platform_release) (bytes f.platform_system) (bytes f.platform_version) (bytes f.sys_platform);
   active = among names;
 }
 
+-- what is kept of a text that is lent
+abbrev pub kept_bytes : Bor (List ℕ) → List ℕ
+kept_bytes t = take most_host_bytes t.now
+
+-- what lent fields and names mean
+abbrev pub fields_meaning : Fields (Bor (List ℕ)) → List Text → Meaning
+fields_meaning f names = meaning_of (λ t. t.now) f names
+
 -- what a record means
 abbrev pub record_meaning : Record → Meaning
-record_meaning r = record {
-  release = release_at r.implementation_version r.python_full_version r.python_version;
-  text = text_at (host_bytes r.implementation_name) (host_bytes r.os_name) (host_bytes r.platform_machine) (host_bytes r.platform_python_implementation) (host_bytes r.platform_release) (host_bytes r.platform_system) (host_bytes r.platform_version) (host_bytes r.sys_platform);
-  active = among r.names.now;
-}
+record_meaning r = meaning_of host_bytes r.fields r.names.now
 
 -- 15: the text of the field at an index is too long
 abbrev pub text_refusal : ℕ → List ℕ → Option Fault
 text_refusal i bs = cond (nat_lt most_host_bytes (length bs)) (Some (HostTextTooLong i)) None
 
 -- 15, of the first field in the order of the eleven
-abbrev pub texts_refusal : Fields → Option Fault
+abbrev pub texts_refusal : Fields (Bor (List ℕ)) → Option Fault
 texts_refusal f =
     option_or (text_refusal 0 f.implementation_name.now)
     (option_or (text_refusal 2 f.os_name.now)
@@ -94,12 +100,8 @@ texts_refusal f =
 abbrev pub names_refusal : List Text → Option Fault
 names_refusal names = option_map (λ i. NameNotNormal i) (position_from (λ t. not (normal_name (text_bytes t))) 0 names)
 
-abbrev pub unless_refused : Option Fault → Meaning → Result Meaning Fault
-unless_refused None m = Ok m
-unless_refused (Some f) m = Err f
-
 -- THE ANSWER of making a record: it means just what it was made from
-abbrev pub made_record : Fields → List Text → Result Meaning Fault
+abbrev pub made_record : Fields (Bor (List ℕ)) → List Text → Result Meaning Fault
 made_record f names = unless_refused (option_or (texts_refusal f) (names_refusal names)) (fields_meaning f names)
 
 -- what an answer of the code means

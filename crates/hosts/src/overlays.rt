@@ -18,7 +18,7 @@ impl<H: Host> Host for Overlay<'_, H> {
     ghost means = { λ o. overlaid (H.Host.means o.below.now) o.key o.release };
 
     fn get_version(&self, key: MarkerValueVersion) -> &Release {
-        if key.number() == self.key.number() {
+        if key == self.key {
             &self.release
         } else {
             self.below.get_version(key)

@@ -1,13 +1,16 @@
-ghost use Rattle.std.specs.Prelude.{◌≡◌, length, take};
-ghost use Rattle.hosts.specs.Records.{host_bytes, most_host_bytes, text_refusal, texts_refusal, names_refusal, among, record_meaning, meant, made_record};
-ghost use Rattle.diagrams.specs.Admission.{answer};
+ghost use Rattle.std.specs.Prelude.{◌≡◌, List, not, length, take};
+ghost use Rattle.std.specs.List.{position_from};
+ghost use Rattle.values.specs.Names.{normal_name};
+ghost use Rattle.values.specs.declared.texts.Text.{Text};
+ghost use Rattle.hosts.specs.Records.{host_bytes, most_host_bytes, text_refusal, texts_refusal, names_refusal, among, kept_bytes, meaning_of, record_meaning, meant, made_record};
+ghost use Rattle.values.specs.Faults.{answer};
 ghost use Rattle.values.specs.Texts.{text_bytes};
 
 use crate::hosts::Host;
 use values::faults::Fault;
 use values::keys::{MarkerValueString, MarkerValueVersion};
-use values::orders::Order;
 use values::releases::Release;
+use values::stored::padded;
 use values::texts::Text;
 
 // How many bytes a host's text has at most.
@@ -25,14 +28,9 @@ impl HostBytes {
     fn copied(bytes: &[u8]) -> HostBytes
         ensures { host_bytes result ≡ take most_host_bytes bytes.now }
     {
-        let kept = bytes.len().min(MOST_HOST_BYTES);
-        let mut stored = [0; 255];
-        for index in 0..kept {
-            stored[index] = bytes[index];
-        }
         HostBytes {
-            length: kept as u8,
-            bytes: stored,
+            length: bytes.len().min(MOST_HOST_BYTES) as u8,
+            bytes: padded(bytes, 0),
         }
     }
 
@@ -40,40 +38,30 @@ impl HostBytes {
         ensures { result.now ≡ host_bytes self.now }
     {
         let end = self.length as usize;
-        &self.bytes[0..end]
+        &self.bytes[..end]
     }
 }
 
-// The fields of a host, lent to make a record of them.
+// The fields of a host, whose texts may be lent or owned.
 #[derive(Clone, Copy)]
-pub struct Fields<'a> {
-    pub implementation_name: &'a [u8],
+pub struct Fields<T> {
+    pub implementation_name: T,
     pub implementation_version: Release,
-    pub os_name: &'a [u8],
-    pub platform_machine: &'a [u8],
-    pub platform_python_implementation: &'a [u8],
-    pub platform_release: &'a [u8],
-    pub platform_system: &'a [u8],
-    pub platform_version: &'a [u8],
+    pub os_name: T,
+    pub platform_machine: T,
+    pub platform_python_implementation: T,
+    pub platform_release: T,
+    pub platform_system: T,
+    pub platform_version: T,
     pub python_full_version: Release,
     pub python_version: Release,
-    pub sys_platform: &'a [u8],
+    pub sys_platform: T,
 }
 
-// A host that owns its eleven fields, with a caller's list of active names.
+// A host that owns its fields, with a caller's list of active names.
 #[derive(Clone, Copy)]
 pub struct Record<'a> {
-    implementation_name: HostBytes,
-    implementation_version: Release,
-    os_name: HostBytes,
-    platform_machine: HostBytes,
-    platform_python_implementation: HostBytes,
-    platform_release: HostBytes,
-    platform_system: HostBytes,
-    platform_version: HostBytes,
-    python_full_version: Release,
-    python_version: Release,
-    sys_platform: HostBytes,
+    fields: Fields<HostBytes>,
     names: &'a [Text],
 }
 
@@ -89,7 +77,7 @@ fn check_text(field: usize, bytes: &[u8]) -> Result<(), Fault>
 }
 
 // Refusal 15 of the first field that is too long.
-fn check_texts(fields: &Fields) -> Result<(), Fault>
+fn check_texts(fields: &Fields<&[u8]>) -> Result<(), Fault>
     ensures { result ≡ answer (texts_refusal fields.now) }
 {
     check_text(0, fields.implementation_name)?;
@@ -102,53 +90,58 @@ fn check_texts(fields: &Fields) -> Result<(), Fault>
     check_text(10, fields.sys_platform)
 }
 
+// The place of the first name that is not normal.
+fn first_not_normal(names: &[Text]) -> Option<usize>
+    ensures { result ≡ position_from (λ t. not (normal_name (text_bytes t))) 0 names.now }
+{
+    names.iter().position(|name| !name.is_normal_name())
+}
+
 // Refusal 16 of the first name that is not normal.
-#[tactic(auto, using(crate::proofs::Recording::names_turn))]
 pub fn check_names(names: &[Text]) -> Result<(), Fault>
     ensures { result ≡ answer (names_refusal names.now) }
 {
-    for (index, name) in names.iter().enumerate() {
-        if !name.is_normal_name() {
-            return Err(Fault::NameNotNormal { index });
-        }
+    match first_not_normal(names) {
+        Some(index) => Err(Fault::NameNotNormal { index }),
+        None => Ok(()),
     }
-    Ok(())
 }
 
 // Whether a name is among names, byte for byte.
-#[tactic(auto, using(crate::proofs::Recording::among_turn))]
 pub fn is_among(name: &Text, names: &[Text]) -> bool
     ensures { result ≡ among names.now (text_bytes name.now) }
 {
-    for other in names {
-        if other.compare(name).is_eq() {
-            return true;
-        }
+    names.contains(name)
+}
+
+// The fields with copies of their texts.
+fn owned(fields: &Fields<&[u8]>) -> Fields<HostBytes>
+    ensures { (names : List Text) → meaning_of host_bytes result names ≡ meaning_of kept_bytes fields.now names }
+{
+    Fields {
+        implementation_name: HostBytes::copied(fields.implementation_name),
+        implementation_version: fields.implementation_version,
+        os_name: HostBytes::copied(fields.os_name),
+        platform_machine: HostBytes::copied(fields.platform_machine),
+        platform_python_implementation: HostBytes::copied(fields.platform_python_implementation),
+        platform_release: HostBytes::copied(fields.platform_release),
+        platform_system: HostBytes::copied(fields.platform_system),
+        platform_version: HostBytes::copied(fields.platform_version),
+        python_full_version: fields.python_full_version,
+        python_version: fields.python_version,
+        sys_platform: HostBytes::copied(fields.sys_platform),
     }
-    false
 }
 
 impl<'a> Record<'a> {
     // The record of the fields and names: refusal 15, then 16.
-    pub fn new(fields: &Fields, names: &'a [Text]) -> Result<Record<'a>, Fault>
+    pub fn new(fields: &Fields<&[u8]>, names: &'a [Text]) -> Result<Record<'a>, Fault>
         ensures { meant result ≡ made_record fields.now names.now }
     {
         check_texts(fields)?;
         check_names(names)?;
         Ok(Record {
-            implementation_name: HostBytes::copied(fields.implementation_name),
-            implementation_version: fields.implementation_version,
-            os_name: HostBytes::copied(fields.os_name),
-            platform_machine: HostBytes::copied(fields.platform_machine),
-            platform_python_implementation: HostBytes::copied(
-                fields.platform_python_implementation,
-            ),
-            platform_release: HostBytes::copied(fields.platform_release),
-            platform_system: HostBytes::copied(fields.platform_system),
-            platform_version: HostBytes::copied(fields.platform_version),
-            python_full_version: fields.python_full_version,
-            python_version: fields.python_version,
-            sys_platform: HostBytes::copied(fields.sys_platform),
+            fields: owned(fields),
             names,
         })
     }
@@ -158,31 +151,33 @@ impl Host for Record<'_> {
     ghost means = { record_meaning };
 
     fn get_version(&self, key: MarkerValueVersion) -> &Release {
+        let fields = &self.fields;
         match key {
-            MarkerValueVersion::ImplementationVersion => &self.implementation_version,
-            MarkerValueVersion::PythonFullVersion => &self.python_full_version,
-            MarkerValueVersion::PythonVersion => &self.python_version,
+            MarkerValueVersion::ImplementationVersion => &fields.implementation_version,
+            MarkerValueVersion::PythonFullVersion => &fields.python_full_version,
+            MarkerValueVersion::PythonVersion => &fields.python_version,
         }
     }
 
     fn get_string(&self, key: MarkerValueString) -> &[u8] {
-        let field = match key {
-            MarkerValueString::ImplementationName => &self.implementation_name,
-            MarkerValueString::OsName | MarkerValueString::OsNameDeprecated => &self.os_name,
+        let fields = &self.fields;
+        let text = match key {
+            MarkerValueString::ImplementationName => &fields.implementation_name,
+            MarkerValueString::OsName | MarkerValueString::OsNameDeprecated => &fields.os_name,
             MarkerValueString::PlatformMachine | MarkerValueString::PlatformMachineDeprecated =>
-                &self.platform_machine,
+                &fields.platform_machine,
             MarkerValueString::PlatformPythonImplementation
             | MarkerValueString::PlatformPythonImplementationDeprecated
             | MarkerValueString::PythonImplementationDeprecated =>
-                &self.platform_python_implementation,
-            MarkerValueString::PlatformRelease => &self.platform_release,
-            MarkerValueString::PlatformSystem => &self.platform_system,
+                &fields.platform_python_implementation,
+            MarkerValueString::PlatformRelease => &fields.platform_release,
+            MarkerValueString::PlatformSystem => &fields.platform_system,
             MarkerValueString::PlatformVersion | MarkerValueString::PlatformVersionDeprecated =>
-                &self.platform_version,
+                &fields.platform_version,
             MarkerValueString::SysPlatform | MarkerValueString::SysPlatformDeprecated =>
-                &self.sys_platform,
+                &fields.sys_platform,
         };
-        field.as_bytes()
+        text.as_bytes()
     }
 
     fn is_active(&self, name: &Text) -> bool {

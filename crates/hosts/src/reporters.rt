@@ -98,7 +98,7 @@ impl<'a> KeepingReporter<'a> {
     pub fn kept(&self) -> &[Report]
         ensures { result.now ≡ (keeping_tally self.now).kept }
     {
-        &self.places[0..self.used]
+        &self.places[..self.used]
     }
 }
 

@@ -2,7 +2,7 @@ use values::keys::MarkerValueString;
 use values::texts::Text;
 
 // What a warning is about.
-#[derive(Clone, Copy)]
+#[derive(Clone, Copy, PartialEq, Eq)]
 pub enum MarkerWarningKind {
     DeprecatedMarkerName,
     ExtraInvalidComparison,
@@ -13,7 +13,7 @@ pub enum MarkerWarningKind {
 }
 
 // A warning, with the key and the literal that it is about.
-#[derive(Clone, Copy)]
+#[derive(Clone, Copy, PartialEq, Eq)]
 pub struct Report {
     pub kind: MarkerWarningKind,
     pub key: MarkerValueString,

@@ -38,7 +38,8 @@ fn are_empty<T: Order>(lower: &Bound<T>, upper: &Bound<T>) -> bool
     match (lower, upper) {
         (Bound::Unbounded, _) | (_, Bound::Unbounded) => false,
         (Bound::Included(x), Bound::Included(y)) => x > y,
-        (Bound::Included(x) | Bound::Excluded(x), Bound::Included(y) | Bound::Excluded(y)) => x >= y,
+        (Bound::Included(x) | Bound::Excluded(x), Bound::Included(y) | Bound::Excluded(y)) => x
+            >= y,
     }
 }
 

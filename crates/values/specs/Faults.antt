@@ -1,5 +1,5 @@
 -- Refusals: the number, the layer and the two places of each.
-use Rattle.std.specs.Prelude.{ℕ}
+use Rattle.std.specs.Prelude.{ℕ, Some, None, Ok, Err, Option, Result}
 use Rattle.values.specs.declared.faults.Fault.{Fault}
 use Rattle.values.specs.declared.faults.Layer.{Layer}
 use Rattle.values.specs.declared.faults.Layer.TheVariants.{Value, Edge, Node, Call}
@@ -42,3 +42,12 @@ refusal (HostTextTooLong i) = refused 15 4 i 0
 refusal (NameNotNormal i) = refused 16 4 i 0
 refusal PathFull = refused 17 4 0 0
 refusal ClausesFull = refused 18 4 0 0
+
+-- what a call answers: its result, unless it is refused
+abbrev pub unless_refused : {A : Type 0} → Option Fault → A → Result A Fault
+unless_refused None x = Ok x
+unless_refused (Some f) x = Err f
+
+-- the same, of a call that answers nothing else
+abbrev pub answer : Option Fault → Result (Unit {0}) Fault
+answer o = unless_refused o tt

@@ -22,10 +22,6 @@ returns-then-not-may_come c =
     let answer : false ≡ normal_name (text_bytes t) = named t bs false c.as_bytes-byte-items.ensures (sym stops ∙ c.loop-byte.invariant) in
     record { answer = answer; law = decided t false answer }
 
-pub loop-byte-preserved : goal.loop-byte-preserved
-loop-byte-preserved c =
-    sym (rest_more c.loop-byte.barred c.as_bytes-byte-items.result.now c.loop-byte.byte-index true c.loop-byte-test.true c.if-not-may_come.ensures) ∙ c.loop-byte.invariant
-
 pub returns : goal.returns
 returns c =
     let t = c.args.self.now in
