@@ -4,7 +4,7 @@ use crate::tests::given::{
     texts, third,
 };
 use diagrams::rows::ReleaseEdge;
-use values::bounds::Bound;
+use std::ops::Bound;
 
 // Below 1, from 1 to below 2, and from 2 on.
 fn thirds(a: u32, b: u32, c: u32) -> [ReleaseEdge; 3] {

@@ -1,8 +1,8 @@
 // Which values an edge contains.
 use crate::tests::given::{edge, release, text};
 use ranges::points::HostText;
-use values::bounds::Bound;
-use values::bounds::Bound::{Excluded, Included, Unbounded};
+use std::ops::Bound;
+use std::ops::Bound::{Excluded, Included, Unbounded};
 use values::releases::{LARGEST, Release};
 use values::texts::Text;
 

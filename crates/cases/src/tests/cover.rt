@@ -1,7 +1,7 @@
 // Refusal 12.
 use crate::tests::given::{ADMITTED, edge, placed, ranged, refused, release, text};
-use values::bounds::Bound;
-use values::bounds::Bound::{Excluded, Included, Unbounded};
+use std::ops::Bound;
+use std::ops::Bound::{Excluded, Included, Unbounded};
 use values::releases::{LARGEST, Release};
 use values::texts::Text;
 

@@ -2,8 +2,8 @@
 use crate::tests::given::{ADMITTED, edge, placed, ranged, refused, release, text};
 use diagrams::rows::ReleaseEdge;
 use ranges::edges::Edge;
-use values::bounds::Bound;
-use values::bounds::Bound::{Excluded, Included, Unbounded};
+use std::ops::Bound;
+use std::ops::Bound::{Excluded, Included, Unbounded};
 use values::releases::Release;
 use values::texts::Text;
 

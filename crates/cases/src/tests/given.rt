@@ -2,7 +2,7 @@
 use diagrams::diagram::Diagram;
 use diagrams::rows::{Node, ReleaseEdge, TextEdge};
 use ranges::edges::Edge;
-use values::bounds::Bound;
+use std::ops::Bound;
 use values::faults::Fault;
 use values::releases::Release;
 use values::texts::Text;
@@ -13,9 +13,9 @@ pub const NO_REFUSAL: [usize; 4] = [0; 4];
 pub const ADMITTED: [[usize; 4]; 2] = [[0; 4]; 2];
 
 // Number, layer and both places of a refusal, zeros where there is none.
-pub fn told(answer: Result<(), Fault>) -> [usize; 4] {
+pub fn told<T: Drop>(answer: Result<T, Fault>) -> [usize; 4] {
     match answer {
-        Ok(()) => NO_REFUSAL,
+        Ok(_) => NO_REFUSAL,
         Err(fault) => {
             let (first, second) = fault.places();
             [

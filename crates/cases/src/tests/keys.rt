@@ -1,5 +1,5 @@
 use std::test::Fail;
-use values::keys::{MarkerValueString, MarkerValueVersion};
+use values::keys::{Key, MarkerValueString, MarkerValueVersion};
 
 const VERSION_NAMES: [&str; 3] = [
     "implementation_version",
@@ -24,30 +24,25 @@ const STRING_NAMES: [&str; 14] = [
     "sys.platform",
 ];
 
-#[test]
-fn version_keys_have_their_numbers_and_names(rt: HostRuntime) -> Result<(), Fail> {
-    let mut number = 0;
-    for name in VERSION_NAMES {
-        let key = MarkerValueVersion::from_number(number).ok_or(name)?;
+// Checks that the keys have the numbers from 0 on, and the names.
+fn have<K: Key>(rt: &HostRuntime, names: &[&str]) -> Result<(), Fail> {
+    for (number, name) in (0u8..=255).zip(names) {
+        let key = K::from_number(number).ok_or(*name)?;
         assert_eq!(rt; key.number(), number);
-        assert_eq!(rt; key.name(), name);
-        number = number.wrapping_add(1);
+        assert_eq!(rt; key.name(), *name);
     }
-    assert!(rt; MarkerValueVersion::from_number(3).is_none());
-    assert!(rt; MarkerValueVersion::from_number(255).is_none());
+    for number in names.len()..256 {
+        assert!(rt; K::from_number(number as u8).is_none());
+    }
     Ok(())
 }
 
 #[test]
+fn version_keys_have_their_numbers_and_names(rt: HostRuntime) -> Result<(), Fail> {
+    have::<MarkerValueVersion>(&rt, &VERSION_NAMES)
+}
+
+#[test]
 fn string_keys_have_their_numbers_and_names(rt: HostRuntime) -> Result<(), Fail> {
-    let mut number = 0;
-    for name in STRING_NAMES {
-        let key = MarkerValueString::from_number(number).ok_or(name)?;
-        assert_eq!(rt; key.number(), number);
-        assert_eq!(rt; key.name(), name);
-        number = number.wrapping_add(1);
-    }
-    assert!(rt; MarkerValueString::from_number(14).is_none());
-    assert!(rt; MarkerValueString::from_number(255).is_none());
-    Ok(())
+    have::<MarkerValueString>(&rt, &STRING_NAMES)
 }

@@ -4,7 +4,7 @@ use crate::tests::given::{
 };
 use diagrams::rows::{ReleaseEdge, TextEdge};
 use ranges::edges::Edge;
-use values::bounds::Bound::{Excluded, Included, Unbounded};
+use std::ops::Bound::{Excluded, Included, Unbounded};
 
 // The edge at a place of edges that cover the line up to a last one.
 fn step<T>(at: T, next: T, place: u8, last: u8) -> Edge<T>

@@ -3,7 +3,7 @@ use crate::tests::given::{
     admission, branching, edge, node_of, placed, ranged, refused, release, releases, text, texts,
 };
 use diagrams::rows::{Node, ReleaseEdge};
-use values::bounds::Bound::{Excluded, Included, Unbounded};
+use std::ops::Bound::{Excluded, Included, Unbounded};
 
 // A range that is empty, and one whose bounds are wrong at either end.
 fn empty(child: u32) -> ReleaseEdge {

@@ -1,20 +1,16 @@
 use crate::tests::given::{NO_REFUSAL, release, told};
 use std::cmp::Ordering;
-use values::orders::Order;
 use values::releases::{LARGEST, Release};
 
 const ONE_TO_EIGHT: [u64; 8] = [1, 2, 3, 4, 5, 6, 7, 8];
 
 fn made(numbers: &[u64]) -> [usize; 4] {
-    match Release::new(numbers) {
-        Ok(_) => NO_REFUSAL,
-        Err(fault) => told(Err(fault)),
-    }
+    told(Release::new(numbers))
 }
 
 // How two releases compare, either way round.
 fn both_ways(a: &Release, b: &Release) -> (Ordering, Ordering) {
-    (a.compare(b), b.compare(a))
+    (a.cmp(b), b.cmp(a))
 }
 
 fn compared(a: &[u64], b: &[u64]) -> (Ordering, Ordering) {

@@ -2,7 +2,7 @@
 use crate::rewriting::rewrite;
 use crate::tests::given::{NO_REFUSAL, edge, ranged, releases, texts, told};
 use diagrams::ids::NodeId;
-use values::bounds::Bound::Unbounded;
+use std::ops::Bound::Unbounded;
 
 #[test]
 fn a_written_row_is_admitted_anew(rt: HostRuntime) {

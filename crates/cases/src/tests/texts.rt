@@ -1,18 +1,14 @@
 use crate::tests::given::{NO_REFUSAL, text, told};
 use std::cmp::Ordering;
-use values::orders::Order;
 use values::texts::Text;
 
 fn made(bytes: &[u8]) -> [usize; 4] {
-    match Text::new(bytes) {
-        Ok(_) => NO_REFUSAL,
-        Err(fault) => told(Err(fault)),
-    }
+    told(Text::new(bytes))
 }
 
 // How two texts compare, either way round.
 fn both_ways(a: &Text, b: &Text) -> (Ordering, Ordering) {
-    (a.compare(b), b.compare(a))
+    (a.cmp(b), b.cmp(a))
 }
 
 fn compared(a: &[u8], b: &[u8]) -> (Ordering, Ordering) {

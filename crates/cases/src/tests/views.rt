@@ -5,8 +5,9 @@ use diagrams::ids::NodeId;
 use diagrams::rows::{Node, ReleaseEdge, TextEdge};
 use diagrams::views::{EdgesMarkerTree, MarkerTreeKind, MarkerValueExtra};
 use std::process::Abort;
-use values::bounds::Bound::Unbounded;
+use std::ops::Bound::Unbounded;
 use values::faults::Fault;
+use values::keys::Key;
 
 // A node of each kind, with ids 2 to 13.
 fn nodes() -> [Node; 6] {
@@ -99,10 +100,7 @@ fn shows(rt: &impl Abort, diagram: &Diagram, id: u32, expected: Short) {
 
 // What is told of an id.
 fn known(diagram: &Diagram, id: u32) -> [usize; 4] {
-    match diagram.kind(NodeId(id)) {
-        Ok(_) => told(Ok(())),
-        Err(fault) => told(Err(fault)),
-    }
+    told(diagram.kind(NodeId(id)))
 }
 
 #[test]

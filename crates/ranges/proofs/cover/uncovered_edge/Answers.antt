@@ -26,9 +26,6 @@ returns-then-not-continues g c =
     let answer : Some i ≡ uncovered row es = turn row es i (option_map (λ x. x.now) c.loop-place.before) c.index-edges-place.result false c.loop-place-test.true c.index-edges-place.is c.if-not-continues.ensures ∙ c.loop-place.invariant in
     record { answer = answer; law = placed row es (Some i) answer; one = parted row es }
 
-pub loop-place-preserved : goal.loop-place-preserved
-loop-place-preserved g c = turn g.T.Order.row c.args.edges.now c.loop-place.place (option_map (λ x. x.now) c.loop-place.before) c.index-edges-place.result true c.loop-place-test.true c.index-edges-place.is c.if-not-continues.ensures ∙ c.loop-place.invariant
-
 pub returns-then-is_closed : goal.returns-then-is_closed
 returns-then-is_closed g c =
     let row = g.T.Order.row in
