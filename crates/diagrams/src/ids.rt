@@ -3,7 +3,7 @@ ghost use Rattle.diagrams.specs.Ids.{opposite, turned, Negations};
 
 // What a child or a root is named by. 0 is TRUE, 1 is FALSE, 2(i + 1) is the node at place i, and an odd id is the
 // negation of the even one below it.
-#[derive(Clone, Copy)]
+#[derive(Clone, Copy, PartialEq, Eq)]
 pub struct NodeId(pub u32);
 
 impl NodeId {
