@@ -35,10 +35,11 @@ pub fn rewrite(
     ensures written { releases.new ≡ slice_set releases.old place edge }
     ensures kept { (nodes.new ≡ nodes.old) × (texts.new ≡ texts.old) }
 {
-    let (diagram, before) = Diagram::admit(nodes, releases, texts);
-    let known = diagram.kind(id).is_ok();
+    let admitted = Diagram::admit(nodes, releases, texts);
+    let before = admitted.map(|_| ());
+    let known = admitted.unwrap_or(Diagram::empty()).kind(id).is_ok();
     put(releases, place, edge);
-    let (_, after) = Diagram::admit(nodes, releases, texts);
+    let after = Diagram::admit(nodes, releases, texts).map(|_| ());
     Rewriting {
         before,
         known,

@@ -1,6 +1,7 @@
-ghost use Rattle.std.specs.Prelude.{◌≡◌, ℕ, ◌+◌, ◌≤◌, Bool, List, [], length, not, ◌==◌, IfOk};
+ghost use Rattle.std.specs.Prelude.{◌≡◌, ℕ, ◌+◌, ◌≤◌, Bool, List, [], length, not, ◌==◌, if◌then◌else◌, Some, None, IfOk};
 ghost use Rattle.std.specs.Result.{result_err};
 ghost use Rattle.std.specs.List.{position, list_any};
+ghost use Rattle.values.specs.declared.faults.Fault.TheVariants.{ChildTooLarge};
 ghost use Rattle.diagrams.specs.Tables.{table, held, no_table, child_ids};
 ghost use Rattle.diagrams.specs.Held.{table_of};
 ghost use Rattle.diagrams.specs.Admission.{key_refusal, name_refusal, too_large, child_refusal, range_refusal, cover_refusal, all_same, same_refusal, own_refusal, ranged_refusal, branches_refusal, node_refusal, first_refusal};
@@ -14,7 +15,6 @@ use ranges::edges::{Edge, first_empty};
 use values::faults::Fault;
 use values::keys::{MarkerValueString, MarkerValueVersion};
 use values::orders::Order;
-use values::texts::Text;
 
 // How many nodes a diagram has at most.
 pub const MOST_NODES: usize = 4096;
@@ -24,28 +24,6 @@ pub const LEAST_EDGES: u32 = 2;
 
 pub const MOST_EDGES: u32 = 64;
 
-// Refusal 6.
-fn check_key(place: usize, known: bool) -> Result<(), Fault>
-    ensures { result_err result ≡ key_refusal place known }
-{
-    if known {
-        Ok(())
-    } else {
-        Err(Fault::KeyOutOfRange { node: place })
-    }
-}
-
-// Refusal 7.
-fn check_name(place: usize, literal: &Text) -> Result<(), Fault>
-    ensures { result_err result ≡ name_refusal place literal.now }
-{
-    if literal.is_normal_name() {
-        Ok(())
-    } else {
-        Err(Fault::ExtraNotNormal { node: place })
-    }
-}
-
 // Whether a child's id names the node at the place or one behind it.
 fn is_too_large(place: usize, child: u32) -> bool
     ensures { result ≡ too_large place child }
@@ -53,37 +31,45 @@ fn is_too_large(place: usize, child: u32) -> bool
     child as usize / 2 > place
 }
 
-// The place of the first child whose id is too large.
-fn first_too_large<T>(place: usize, edges: &[Edge<T>]) -> Option<usize>
-    ensures { result ≡ position (too_large place) (child_ids edges.now) }
-{
-    edges
-        .iter()
-        .map(|edge| edge.child)
-        .position(|child| is_too_large(place, child))
+// The edges of the node at a place.
+#[derive(Drop)]
+struct EdgesAt<'a, T> {
+    place: usize,
+    edges: &'a [Edge<T>],
 }
 
-// Refusal 10.
-#[tactic(auto, using(crate::proofs::Checks::first_is_position))]
-fn check_children<T>(place: usize, edges: &[Edge<T>]) -> Result<(), Fault>
-    ensures { result_err result ≡ child_refusal place (child_ids edges.now) }
-{
-    first_too_large(place, edges)
-        .map_or(Ok(()), |child| Err(Fault::ChildTooLarge { node: place, child }))
-}
+impl<T> EdgesAt<'_, T> {
+    // The first edge whose child is too large.
+    fn first_too_large(&self) -> Option<usize>
+        ensures { result ≡ position (too_large self.now.place) (child_ids self.now.edges.now) }
+    {
+        let place = self.place;
+        self.edges
+            .iter()
+            .map(|edge| edge.child)
+            .position(|child| is_too_large(place, child))
+    }
 
-// Refusal 11.
-fn check_ranges<T: Order>(place: usize, edges: &[Edge<T>]) -> Result<(), Fault>
-    ensures { result_err result ≡ range_refusal T.Order.row place edges.now }
-{
-    first_empty(edges).map_or(Ok(()), |edge| Err(Fault::EmptyRange { node: place, edge }))
-}
+    // Refusal 10.
+    #[tactic(auto, using(crate::proofs::Checks::first_is_position))]
+    fn check_children(&self) -> Result<(), Fault>
+        ensures { result_err result ≡ child_refusal self.now.place (child_ids self.now.edges.now) }
+    {
+        let node = self.place;
+        self.first_too_large()
+            .map_or(Ok(()), |child| Err(Fault::ChildTooLarge { node, child }))
+    }
 
-// Refusal 12.
-fn check_cover<T: Order>(place: usize, edges: &[Edge<T>]) -> Result<(), Fault>
-    ensures { result_err result ≡ cover_refusal T.Order.row place edges.now }
-{
-    uncovered_edge(edges).map_or(Ok(()), |edge| Err(Fault::Uncovered { node: place, edge }))
+    // Refusal 13.
+    fn check_difference(&self) -> Result<(), Fault>
+        ensures { result_err result ≡ same_refusal self.now.place (child_ids self.now.edges.now) }
+    {
+        if differ(self.edges) {
+            Ok(())
+        } else {
+            Err(Fault::OneChild { node: self.place })
+        }
+    }
 }
 
 // Whether one of the edges leads to another child.
@@ -96,88 +82,142 @@ fn leads_elsewhere<T>(child: u32, edges: &[Edge<T>]) -> bool
         .any(|other| other != child)
 }
 
-// Refusal 13.
-fn check_difference<T>(place: usize, edges: &[Edge<T>]) -> Result<(), Fault>
-    ensures { result_err result ≡ same_refusal place (child_ids edges.now) }
+// Whether two of the edges lead to different children.
+fn differ<T>(edges: &[Edge<T>]) -> bool
+    ensures { all_same (child_ids edges.now) ≡ not result }
 {
     match edges {
-        [first, rest @ ..] if leads_elsewhere(first.child, rest) => Ok(()),
-        _ => Err(Fault::OneChild { node: place }),
+        [first, rest @ ..] => leads_elsewhere(first.child, rest),
+        [] => false,
     }
 }
 
-// Refusals 10 to 13 of a node's own edges.
-fn check_own_edges<T: Order>(place: usize, edges: &[Edge<T>]) -> Result<(), Fault>
-    ensures { result_err result ≡ own_refusal T.Order.row place edges.now }
-{
-    check_children(place, edges)?;
-    check_ranges(place, edges)?;
-    check_cover(place, edges)?;
-    check_difference(place, edges)
-}
-
-// Refusals 8 to 13 of a node with edges.
-fn check_edges<T: Order>(place: usize, node: &Node, edges: &[Edge<T>]) -> Result<(), Fault>
-    ensures { result_err result ≡ ranged_refusal T.Order.row place node.now edges.now }
-{
-    if node.count < LEAST_EDGES || node.count > MOST_EDGES {
-        return Err(Fault::EdgeCount { node: place });
-    }
-    if node.first as usize + node.count as usize > edges.len() {
-        return Err(Fault::EdgesPastEnd { node: place });
-    }
-    check_own_edges(place, own_edges(edges, node))
-}
-
-// Refusals 10 and 13 of a node with a high and a low child.
-fn check_branches(place: usize, high: u32, low: u32) -> Result<(), Fault>
-    ensures { result_err result ≡ branches_refusal place high low }
-{
-    if is_too_large(place, high) {
-        return Err(Fault::ChildTooLarge {
-            node: place,
-            child: 0,
-        });
-    }
-    if is_too_large(place, low) {
-        return Err(Fault::ChildTooLarge {
-            node: place,
-            child: 1,
-        });
-    }
-    if high == low {
-        return Err(Fault::OneChild { node: place });
-    }
-    Ok(())
-}
-
-impl Rows<'_> {
-    // The first rule that a node breaks.
-    fn check_node(&self, place: usize, node: &Node) -> Result<(), Fault>
-        ensures { result_err result ≡ node_refusal self.now.releases.now self.now.texts.now place node.now }
+impl<T: Order> EdgesAt<'_, T> {
+    // Refusal 11.
+    fn check_ranges(&self) -> Result<(), Fault>
+        ensures { result_err result ≡ range_refusal T.Order.row self.now.place self.now.edges.now }
     {
-        match NodeKind::from_number(node.kind) {
-            Some(NodeKind::Version) => {
-                check_key(place, MarkerValueVersion::from_number(node.key).is_some())?;
-                check_edges(place, node, self.releases)
-            }
-            Some(NodeKind::String) => {
-                check_key(place, MarkerValueString::from_number(node.key).is_some())?;
-                check_edges(place, node, self.texts)
-            }
-            Some(NodeKind::In | NodeKind::Contains) => {
-                check_key(place, MarkerValueString::from_number(node.key).is_some())?;
-                check_branches(place, node.high, node.low)
-            }
-            Some(NodeKind::Extra) => {
-                check_name(place, &node.literal)?;
-                check_branches(place, node.high, node.low)
-            }
-            Some(NodeKind::Arbitrary) => check_branches(place, node.high, node.low),
-            None => Err(Fault::UnknownKind { node: place }),
+        let node = self.place;
+        first_empty(self.edges).map_or(Ok(()), |edge| Err(Fault::EmptyRange { node, edge }))
+    }
+
+    // Refusal 12.
+    fn check_cover(&self) -> Result<(), Fault>
+        ensures { result_err result ≡ cover_refusal T.Order.row self.now.place self.now.edges.now }
+    {
+        let node = self.place;
+        uncovered_edge(self.edges).map_or(Ok(()), |edge| Err(Fault::Uncovered { node, edge }))
+    }
+
+    // Refusals 10 to 13.
+    fn check(&self) -> Result<(), Fault>
+        ensures { result_err result ≡ own_refusal T.Order.row self.now.place self.now.edges.now }
+    {
+        self.check_children()?;
+        self.check_ranges()?;
+        self.check_cover()?;
+        self.check_difference()
+    }
+}
+
+// The node at a place.
+#[derive(Drop)]
+struct NodeAt<'a> {
+    place: usize,
+    node: &'a Node,
+}
+
+impl NodeAt<'_> {
+    // Refusal 6.
+    fn check_key(&self, known: bool) -> Result<(), Fault>
+        ensures { result_err result ≡ key_refusal self.now.place known }
+    {
+        if known {
+            Ok(())
+        } else {
+            Err(Fault::KeyOutOfRange { node: self.place })
         }
     }
 
+    // Refusal 7.
+    fn check_name(&self) -> Result<(), Fault>
+        ensures { result_err result ≡ name_refusal self.now.place self.now.node.now.literal }
+    {
+        if self.node.literal.is_normal_name() {
+            Ok(())
+        } else {
+            Err(Fault::ExtraNotNormal { node: self.place })
+        }
+    }
+
+    // Refusals 8 to 13 of a node with edges, which lie in the list.
+    fn check_edges<T: Order>(&self, edges: &[Edge<T>]) -> Result<(), Fault>
+        ensures { result_err result ≡ ranged_refusal T.Order.row self.now.place self.now.node.now edges.now }
+    {
+        let NodeAt { place, node } = *self;
+        if node.count < LEAST_EDGES || node.count > MOST_EDGES {
+            return Err(Fault::EdgeCount { node: place });
+        }
+        if node.first as usize + node.count as usize > edges.len() {
+            return Err(Fault::EdgesPastEnd { node: place });
+        }
+        let edges = own_edges(edges, node);
+        EdgesAt { place, edges }.check()
+    }
+
+    // Refusal 10 of the high child, which is the child 0, or of the low one.
+    fn check_child(&self, child: usize, id: u32) -> Result<(), Fault>
+        ensures { result_err result ≡ (if too_large self.now.place id then Some (ChildTooLarge self.now.place child) else None) }
+    {
+        let node = self.place;
+        if is_too_large(node, id) {
+            Err(Fault::ChildTooLarge { node, child })
+        } else {
+            Ok(())
+        }
+    }
+
+    // Refusals 10 and 13 of a node with a high and a low child.
+    fn check_branches(&self) -> Result<(), Fault>
+        ensures { result_err result ≡ branches_refusal self.now.place self.now.node.now.high self.now.node.now.low }
+    {
+        self.check_child(0, self.node.high)?;
+        self.check_child(1, self.node.low)?;
+        if self.node.high == self.node.low {
+            return Err(Fault::OneChild { node: self.place });
+        }
+        Ok(())
+    }
+
+    // The first rule that the node breaks.
+    fn check(&self, rows: &Rows) -> Result<(), Fault>
+        ensures { result_err result ≡ node_refusal rows.now.releases.now rows.now.texts.now self.now.place self.now.node.now }
+    {
+        let node = self.node;
+        match NodeKind::from_number(node.kind) {
+            Some(NodeKind::Version) => {
+                self.check_key(MarkerValueVersion::from_number(node.key).is_some())?;
+                self.check_edges(rows.releases)
+            }
+            Some(NodeKind::String) => {
+                self.check_key(MarkerValueString::from_number(node.key).is_some())?;
+                self.check_edges(rows.texts)
+            }
+            Some(NodeKind::In | NodeKind::Contains) => {
+                self.check_key(MarkerValueString::from_number(node.key).is_some())?;
+                self.check_branches()
+            }
+            Some(NodeKind::Extra) => {
+                self.check_name()?;
+                self.check_branches()
+            }
+            Some(NodeKind::Arbitrary) => self.check_branches(),
+            None => Err(Fault::UnknownKind { node: self.place }),
+        }
+    }
+}
+
+impl Rows<'_> {
     // The first rule that the lists break.
     #[tactic(auto, using(crate::proofs::Checks::many, crate::proofs::Checks::few))]
     fn check(&self) -> Result<(), Fault>
@@ -187,7 +227,7 @@ impl Rows<'_> {
             return Err(Fault::TooManyNodes);
         }
         for (place, node) in self.nodes.iter().enumerate() {
-            self.check_node(place, node)?;
+            NodeAt { place, node }.check(self)?;
         }
         Ok(())
     }

@@ -12,6 +12,7 @@ impl NodeId {
     pub const FALSE: NodeId = NodeId(1);
 
     // The id of the negation.
+    #[tactic(auto, using(crate::proofs::Turning::turn_is, crate::proofs::Turning::negations))]
     pub fn negate(self) -> NodeId
         ensures answer { result.0 ≡ opposite self.0 }
         ensures law { Negations }
@@ -20,6 +21,7 @@ impl NodeId {
     }
 
     // The id as it is seen under the id of a parent: negated where that is a negation.
+    #[tactic(auto, using(crate::proofs::Turning::turn_is))]
     pub fn under(self, parent: NodeId) -> NodeId
         ensures { result.0 ≡ turned parent.0 self.0 }
     {
