@@ -1,6 +1,7 @@
 ghost use Rattle.std.specs.Prelude.{◌≡◌, is_ok, if◌then◌else◌, slice_set};
 ghost use Rattle.diagrams.specs.Tables.{table, no_table};
-ghost use Rattle.diagrams.specs.Admission.{answer, first_refusal};
+ghost use Rattle.values.specs.Faults.{answer};
+ghost use Rattle.diagrams.specs.Admission.{first_refusal};
 ghost use Rattle.diagrams.specs.Views.{known as is_known};
 
 use diagrams::diagram::Diagram;
@@ -35,10 +36,11 @@ pub fn rewrite(
     ensures written { releases.new ≡ slice_set releases.old place edge }
     ensures kept { (nodes.new ≡ nodes.old) × (texts.new ≡ texts.old) }
 {
-    let (diagram, before) = Diagram::admit(nodes, releases, texts);
-    let known = diagram.kind(id).is_ok();
+    let admitted = Diagram::admit(nodes, releases, texts);
+    let before = admitted.map(|_| ());
+    let known = admitted.unwrap_or(Diagram::empty()).kind(id).is_ok();
     put(releases, place, edge);
-    let (_, after) = Diagram::admit(nodes, releases, texts);
+    let after = Diagram::admit(nodes, releases, texts).map(|_| ());
     Rewriting {
         before,
         known,

@@ -155,8 +155,7 @@ impl Console {
     }
 
     fn admit(&mut self) -> Result<(), Stop> {
-        let (_, admitted) = self.table.admit();
-        admitted?;
+        self.table.admit()?;
         self.say("admitted")
     }
 
@@ -167,8 +166,7 @@ impl Console {
     }
 
     fn kind(&mut self, id: NodeId) -> Result<(), Stop> {
-        let (diagram, admitted) = self.table.admit();
-        admitted?;
+        let diagram = self.table.admit()?;
         let kind = diagram.kind(id)?;
         writeln!(self.out, "{}", Shown(&kind))?;
         Ok(())
@@ -201,8 +199,7 @@ impl Console {
     }
 
     fn evaluate(&mut self, root: NodeId, places: usize) -> Result<(), Stop> {
-        let (diagram, admitted) = self.table.admit();
-        admitted?;
+        let diagram = self.table.admit()?;
         let record = self.station.record()?;
         let out = &mut self.out;
         match self.station.overlays() {
@@ -220,15 +217,13 @@ impl Console {
     }
 
     fn extras(&mut self, root: NodeId, words: &[TextWord]) -> Result<(), Stop> {
-        let (diagram, admitted) = self.table.admit();
-        admitted?;
+        let diagram = self.table.admit()?;
         let names = make_all(self.heap, words)?;
         tell_answer(&mut self.out, evaluate_extras(&diagram, root, &names)?)
     }
 
     fn extras_python(&mut self, question: &PythonQuestion) -> Result<(), Stop> {
-        let (diagram, admitted) = self.table.admit();
-        admitted?;
+        let diagram = self.table.admit()?;
         let releases = make_all(self.heap, &question.releases)?;
         let names = make_all(self.heap, &question.names)?;
         let root = question.root;

@@ -1,7 +1,6 @@
 // How the console prints values of the unit.
 use diagrams::views::{
-    ContainsMarkerTree, EdgesMarkerTree, ExtraMarkerTree, InMarkerTree, MarkerTreeKind,
-    MarkerValueExtra,
+    EdgesMarkerTree, ExtraMarkerTree, LiteralMarkerTree, MarkerTreeKind, MarkerValueExtra,
 };
 use hosts::warnings::Report;
 use std::fmt;
@@ -91,14 +90,7 @@ impl<K: Show, T: Show> Show for EdgesMarkerTree<'_, K, T> {
     }
 }
 
-impl Show for InMarkerTree<'_> {
-    fn show<W: fmt::Write>(&self, f: &mut fmt::Formatter<W>) -> fmt::Result {
-        let (high, low) = (self.high.0, self.low.0);
-        write!(f, "{} {} {high} {low}", Shown(&self.key), Shown(self.value))
-    }
-}
-
-impl Show for ContainsMarkerTree<'_> {
+impl Show for LiteralMarkerTree<'_> {
     fn show<W: fmt::Write>(&self, f: &mut fmt::Formatter<W>) -> fmt::Result {
         let (high, low) = (self.high.0, self.low.0);
         write!(f, "{} {} {high} {low}", Shown(&self.key), Shown(self.value))

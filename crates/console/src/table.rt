@@ -34,7 +34,7 @@ impl Table {
         self.texts.clear();
     }
 
-    pub(crate) fn admit(&self) -> (Diagram<'_>, Result<(), Fault>) {
+    pub(crate) fn admit(&self) -> Result<Diagram<'_>, Fault> {
         Diagram::admit(&self.nodes, &self.releases, &self.texts)
     }
 }

@@ -1,11 +1,10 @@
 -- The law of admission: the rules of a node one by one, then of all nodes.
 use Rattle.std.proofs.Common.{◌≡◌, ℕ, zero, suc, ◌+◌, ◌*◌, ◌<◌, ◌≤◌, Bool, true, false, ◌||◌, eqb, ltb, leb, ◌⊎◌, List, [], ◌∷◌, length, get_or, is_some, Some, None, Option, sym, refl, ap, ◌∙◌, subst, inl, inr, le_of_suc-le-suc, not-suc-le-zero, arith}
 use Rattle.std.specs.Option.{option_or}
-use Rattle.std.specs.List.{slice_get}
+use Rattle.std.specs.List.{slice_get, list_any, list_all, position_from}
 use Rattle.std.proofs.lemmas.List.{length-take, length-drop}
 use Rattle.std.proofs.lemmas.Bool.{cases_lt, cases_Bool, cases_eq, ltb-true, ltb-false, lt-ltb, le-ltb, leb-true, leb-false, eqb-true, eqb-false, eq-eqb, or_cases, or_parts, and_parts, and_from, both_ways, not-false}
 use Rattle.std.proofs.lemmas.Bool.Decides.{nat_tests}
-use Rattle.values.specs.Lists.{any, all, first_place}
 use Rattle.values.specs.Rows.{Row}
 use Rattle.values.specs.Releases.{release_row}
 use Rattle.values.specs.Texts.{text_bytes}
@@ -30,14 +29,14 @@ use Rattle.diagrams.proofs.Judge.{number, second, only_5, only_6, only_7, only_8
 
 -- ---- lists of child ids
 
-equal_all : (c : ℕ) (cs : List ℕ) → all (λ d. eqb d c) cs ≡ true → (j : ℕ) → j < length cs → get_or cs j 0 ≡ c
+equal_all : (c : ℕ) (cs : List ℕ) → list_all (λ d. eqb d c) cs ≡ true → (j : ℕ) → j < length cs → get_or cs j 0 ≡ c
 equal_all c [] a j lt = absurd (not-suc-le-zero lt)
-equal_all c (d ∷ cs) a zero lt = eqb-true d c (and_parts (eqb d c) (all (λ e. eqb e c) cs) a).0
-equal_all c (d ∷ cs) a (suc j) lt = equal_all c cs (and_parts (eqb d c) (all (λ e. eqb e c) cs) a).1 j (le_of_suc-le-suc lt)
+equal_all c (d ∷ cs) a zero lt = eqb-true d c (and_parts (eqb d c) (list_all (λ e. eqb e c) cs) a).0
+equal_all c (d ∷ cs) a (suc j) lt = equal_all c cs (and_parts (eqb d c) (list_all (λ e. eqb e c) cs) a).1 j (le_of_suc-le-suc lt)
 
-all_equal : (c : ℕ) (cs : List ℕ) → ((j : ℕ) → j < length cs → get_or cs j 0 ≡ c) → all (λ d. eqb d c) cs ≡ true
+all_equal : (c : ℕ) (cs : List ℕ) → ((j : ℕ) → j < length cs → get_or cs j 0 ≡ c) → list_all (λ d. eqb d c) cs ≡ true
 all_equal c [] h = refl
-all_equal c (d ∷ cs) h = and_from (eqb d c) (all (λ e. eqb e c) cs) (eq-eqb d c (h 0 (omega arith))) (all_equal c cs (λ j lt. h (suc j) (omega arith)))
+all_equal c (d ∷ cs) h = and_from (eqb d c) (list_all (λ e. eqb e c) cs) (eq-eqb d c (h 0 (omega arith))) (all_equal c cs (λ j lt. h (suc j) (omega arith)))
 
 same_equal : (cs : List ℕ) → all_same cs ≡ true → AllEqual cs
 same_equal [] a j lt = absurd (not-suc-le-zero lt)
@@ -59,7 +58,7 @@ pub record SaysChildren (B : Fault → Type 0) (i : ℕ) (cs : List ℕ) : Type 
 
 judge_children : (B : Fault → Type 0) (i : ℕ) (cs : List ℕ) → SaysChildren B i cs → Judged B (child_refusal i cs) 10 11
 judge_children B i cs s =
-    placed (λ j. ChildTooLarge i j) (first_place (too_large i) cs) 10 11 refl (λ j. refl) (λ j. refl)
+    placed (λ j. ChildTooLarge i j) (position_from (too_large i) 0 cs) 10 11 refl (λ j. refl) (λ j. refl)
     (λ e. only_10 (λ (q : Fault). B q → ⊥)
     (λ k j b. let w = s.large_only k j b in let small = leb-false (2 * (i + 1)) (get_or cs j 0) (first_none 0 (too_large i) 0 cs e j w.0) in let big = w.1 in omega arith))
     (λ j e. let w = first_some 0 (too_large i) cs e in s.large j w.within (leb-true (2 * (i + 1)) (get_or cs j 0) w.here))
@@ -87,7 +86,7 @@ pub record SaysEdges {T : Type 0} (row : T → Row) (B : Fault → Type 0) (i : 
 module _ {T : Type 0} (row : T → Row) (B : Fault → Type 0) (i : ℕ) (es : List (Edge T)) (s : SaysEdges row B i es) where
   judge_ranges : Judged B (range_refusal row i es) 11 12
   judge_ranges =
-      placed (λ j. EmptyRange i j) (first_place (empty_edge row) es) 11 12 refl (λ j. refl) (λ j. refl)
+      placed (λ j. EmptyRange i j) (position_from (empty_edge row) 0 es) 11 12 refl (λ j. refl) (λ j. refl)
       (λ e. only_11 (λ (q : Fault). B q → ⊥) (λ k j b. let w = s.hollow_only k j b in both_ways (empty_edge row (get_or es j no_edge)) (first_none no_edge (empty_edge row) 0 es e j w.0) w.1))
       (λ j e. let w = first_some no_edge (empty_edge row) es e in s.hollow j (w.within, w.here))
       (λ j e. let w = first_some no_edge (empty_edge row) es e in
@@ -432,9 +431,9 @@ module _ (t : Table) where
 
 -- ---- what is not broken is sound
 
-any_none : {A : Type 0} (d : A) (p : A → Bool) (xs : List A) → ((k : ℕ) → k < length xs → p (get_or xs k d) ≡ false) → any p xs ≡ false
+any_none : {A : Type 0} (d : A) (p : A → Bool) (xs : List A) → ((k : ℕ) → k < length xs → p (get_or xs k d) ≡ false) → list_any p xs ≡ false
 any_none d p [] h = refl
-any_none d p (x ∷ xs) h = ap (λ b. b || any p xs) (h 0 (omega arith)) ∙ any_none d p xs (λ k lt. h (suc k) (omega arith))
+any_none d p (x ∷ xs) h = ap (λ b. b || list_any p xs) (h 0 (omega arith)) ∙ any_none d p xs (λ k lt. h (suc k) (omega arith))
 
 covers : {T : Type 0} (row : T → Row) (es : List (Edge T)) → 0 < length es → ((k : ℕ) → Gap row es k → ⊥) → cover row es ≡ true
 covers row es some none = by (uncovered row es) refl
@@ -449,7 +448,7 @@ sound_edges row B i n es s none =
     let most : n.count ≤ most_edges = elim (cases_lt most_edges n.count) [ inl lt ↦ absurd (none (EdgeCount i) (s.wrong (inr lt))) | inr ge ↦ ge ] in
     let within : n.first + n.count ≤ length es = elim (cases_lt (length es) (n.first + n.count)) [ inl lt ↦ absurd (none (EdgesPastEnd i) (s.past lt)) | inr ge ↦ ge ] in
     let long = own_long es n within in
-    let filled : any (empty_edge row) (own es n) ≡ false = any_none no_edge (empty_edge row) (own es n)
+    let filled : list_any (empty_edge row) (own es n) ≡ false = any_none no_edge (empty_edge row) (own es n)
     (λ k lt. elim (cases_Bool (empty_edge row (get_or (own es n) k no_edge))) [ inl e ↦ absurd (none (EmptyRange i k) (s.edges_of_own.hollow k (lt, e))) | inr f ↦ f ]) in
     let covered : cover row (own es n) ≡ true = covers row (own es n) (omega arith) (λ k g. none (Uncovered i k) (s.edges_of_own.gap k g)) in
     record { least = least; most = most; within = within; filled = filled; covered = covered; one = parted row (own es n) filled covered }

@@ -4,7 +4,7 @@ use Rattle.std.specs.Option.{option_map, ok_or as okOr}
 use Rattle.std.proofs.lemmas.List.{length-map, get_or-map}
 use Rattle.std.proofs.lemmas.Bool.{cases_Bool, eqb-true, eqb-false, leb-true, eq-eqb, le-leb, lt-ltb}
 use Rattle.std.proofs.lemmas.Bool.Decides.{nat_tests}
-use Rattle.values.specs.Lists.{any}
+use Rattle.std.specs.List.{list_any}
 use Rattle.values.specs.Rows.{Row}
 use Rattle.values.specs.Releases.{release_row}
 use Rattle.values.specs.Texts.{text_bytes}
@@ -29,7 +29,7 @@ turned_below id c k h = grind (arith, nat_tests)
 
 -- ---- edges as they are seen
 
-filled_seen : {T : Type 0} (row : T → Row) (id : ℕ) (es : List (Edge T)) → any (empty_edge row) (map (seen id) es) ≡ any (empty_edge row) es
+filled_seen : {T : Type 0} (row : T → Row) (id : ℕ) (es : List (Edge T)) → list_any (empty_edge row) (map (seen id) es) ≡ list_any (empty_edge row) es
 filled_seen row id [] = refl
 filled_seen row id (e ∷ es) = ap (λ b. empty_edge row e || b) (filled_seen row id es)
 
@@ -43,7 +43,7 @@ covered_seen row id (e ∷ es) = ap (λ b. unbounded e.lower && b) (goes_seen ro
 
 sound_lines : {T : Type 0} (row : T → Row) (id k : ℕ) (n : Node) (es : List (Edge T)) → SoundEdges row es n → 2 * k ≤ id → ((j : ℕ) → j < length (child_ids (own es n)) → get_or (child_ids (own es n)) j 0 < 2 * k) → SoundLines row id (map (seen id) (own es n))
 sound_lines row id k n es s le falls =
-    let filled : any (empty_edge row) (map (seen id) (own es n)) ≡ false = filled_seen row id (own es n) ∙ s.filled in
+    let filled : list_any (empty_edge row) (map (seen id) (own es n)) ≡ false = filled_seen row id (own es n) ∙ s.filled in
     let covered : cover row (map (seen id) (own es n)) ≡ true = covered_seen row id (own es n) ∙ s.covered in
     record { falls = child; filled = filled; covered = covered; one = parted row (map (seen id) (own es n)) filled covered }
   where

@@ -1,7 +1,7 @@
 -- Admission: the first rule that a table breaks.
-use Rattle.std.specs.Prelude.{ℕ, ◌+◌, ◌*◌, Bool, true, cond, ◌||◌, List, [], ◌∷◌, length, is_some, Some, None, Ok, Err, Option, Result, ◌==◌, nat_le, nat_lt}
+use Rattle.std.specs.Prelude.{ℕ, ◌+◌, ◌*◌, Bool, true, cond, ◌||◌, List, [], ◌∷◌, length, is_some, Some, None, Option, ◌==◌, nat_le, nat_lt}
 use Rattle.std.specs.Option.{option_map, option_or}
-use Rattle.values.specs.Lists.{all, first_place}
+use Rattle.std.specs.List.{list_all, position_from}
 use Rattle.values.specs.Rows.{Row}
 use Rattle.values.specs.Releases.{release_row}
 use Rattle.values.specs.Texts.{text_bytes}
@@ -45,11 +45,11 @@ abbrev pub too_large : ℕ → ℕ → Bool
 too_large i child = nat_le (2 * (i + 1)) child
 
 abbrev pub child_refusal : ℕ → List ℕ → Option Fault
-child_refusal i cs = option_map (λ j. ChildTooLarge i j) (first_place (too_large i) cs)
+child_refusal i cs = option_map (λ j. ChildTooLarge i j) (position_from (too_large i) 0 cs)
 
 -- 11: a range is empty
 abbrev pub range_refusal : {T : Type 0} → (T → Row) → ℕ → List (Edge T) → Option Fault
-range_refusal row i es = option_map (λ j. EmptyRange i j) (first_place (empty_edge row) es)
+range_refusal row i es = option_map (λ j. EmptyRange i j) (position_from (empty_edge row) 0 es)
 
 -- 12: the edges do not cover the line
 abbrev pub cover_refusal : {T : Type 0} → (T → Row) → ℕ → List (Edge T) → Option Fault
@@ -58,7 +58,7 @@ cover_refusal row i es = option_map (λ j. Uncovered i j) (uncovered row es)
 -- 13: all children are one
 abbrev pub all_same : List ℕ → Bool
 all_same [] = true
-all_same (c ∷ cs) = all (λ d. d == c) cs
+all_same (c ∷ cs) = list_all (λ d. d == c) cs
 
 abbrev pub same_refusal : ℕ → List ℕ → Option Fault
 same_refusal i cs = cond (all_same cs) (Some (OneChild i)) None
@@ -96,8 +96,3 @@ nodes_refusal rs ts i (n ∷ ns) = option_or (node_refusal rs ts i n) (nodes_ref
 -- THE ANSWER of admission
 unfoldable pub first_refusal : Table → Option Fault
 first_refusal t = cond (nat_lt most_nodes (length t.nodes)) (Some TooManyNodes) (nodes_refusal t.releases t.texts 0 t.nodes)
-
--- a call's answer: the refusal, if there is one
-abbrev pub answer : Option Fault → Result (Unit {0}) Fault
-answer None = Ok tt
-answer (Some f) = Err f

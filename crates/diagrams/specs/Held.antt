@@ -1,6 +1,6 @@
 -- The table that an admitted diagram holds.
-use Rattle.diagrams.specs.Tables.{Table, table}
+use Rattle.diagrams.specs.Tables.{Table, held}
 use Rattle.diagrams.specs.declared.diagram.Diagram.{Diagram}
 
 abbrev pub table_of : Diagram → Table
-table_of d = table d.nodes.now d.releases.now d.texts.now
+table_of d = held d.rows

@@ -1,6 +1,6 @@
 -- What admission means: the rules of a table, which refusal comes first, and what an admitted table is.
 use Rattle.std.specs.Prelude.{◌≡◌, ℕ, ◌+◌, ◌*◌, ◌<◌, ◌≤◌, true, false, cond, ◌⊎◌, List, [], ◌∷◌, length, Some, None, nat_le, slice_index, slice_index_or}
-use Rattle.values.specs.Lists.{any, times}
+use Rattle.std.specs.List.{list_any, count_by}
 use Rattle.values.specs.Rows.{Row}
 use Rattle.values.specs.Releases.{release_row}
 use Rattle.values.specs.Texts.{text_bytes}
@@ -73,10 +73,10 @@ pub record SoundEdges {T : Type 0} (row : T → Row) (es : List (Edge T)) (n : N
   pub least : least_edges ≤ n.count
   pub most : n.count ≤ most_edges
   pub within : n.first + n.count ≤ length es
-  pub filled : any (empty_edge row) (own es n) ≡ false
+  pub filled : list_any (empty_edge row) (own es n) ≡ false
   pub covered : cover row (own es n) ≡ true
   -- exactly one edge contains any value
-  pub one : (v : Row) → times (λ e. lies row e v) (own es n) ≡ 1
+  pub one : (v : Row) → count_by (λ e. lies row e v) (own es n) ≡ 1
 
 pub record SoundNode (t : Table) (i : ℕ) (n : Node) : Type 0 where
   pub kind : n.kind ≤ 5

@@ -4,6 +4,7 @@ use Rattle.values.specs.declared.releases.Release.{Release}
 use Rattle.values.specs.declared.texts.Text.{Text}
 use Rattle.ranges.specs.declared.edges.Edge.{Edge}
 use Rattle.diagrams.specs.declared.rows.Node.{Node}
+use Rattle.diagrams.specs.declared.rows.Rows.{Rows}
 
 pub record Table : Type 0 where
   pub nodes : List Node
@@ -28,3 +29,7 @@ no_table = table [] [] []
 -- what is read behind the end of a list of nodes
 abbrev pub no_node : Node
 no_node = record { kind = 0; key = 0; literal = record { length = 0; bytes = [] }; first = 0; count = 0; high = 0; low = 0 }
+
+-- the table that the code's lists hold
+abbrev pub held : Rows → Table
+held r = table r.nodes.now r.releases.now r.texts.now

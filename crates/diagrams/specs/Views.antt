@@ -1,7 +1,7 @@
 -- What an id shows.
 use Rattle.std.specs.Prelude.{◌≡◌, ℕ, ◌-◌, ◌/◌, ◌<◌, Bool, true, false, cond, List, map, length, is_ok, Some, None, Ok, Err, Option, Result, ◌==◌, nat_le, slice_index_or}
 use Rattle.std.specs.Option.{option_map, ok_or}
-use Rattle.values.specs.Lists.{any, times}
+use Rattle.std.specs.List.{list_any, count_by}
 use Rattle.values.specs.Rows.{Row}
 use Rattle.values.specs.Releases.{release_row}
 use Rattle.values.specs.Texts.{text_bytes}
@@ -90,10 +90,10 @@ shown (Err f) = Err f
 pub record SoundLines {T : Type 0} (row : T → Row) (id : ℕ) (es : List (Edge T)) : Type 0 where
   -- children fall
   pub falls : (j : ℕ) → j < length es → (slice_index_or es j no_edge).child < id
-  pub filled : any (empty_edge row) es ≡ false
+  pub filled : list_any (empty_edge row) es ≡ false
   pub covered : cover row es ≡ true
   -- exactly one edge contains any value
-  pub one : (v : Row) → times (λ e. lies row e v) es ≡ 1
+  pub one : (v : Row) → count_by (λ e. lies row e v) es ≡ 1
 
 -- what is known of a view that an admitted diagram shows under an id
 abbrev pub SoundView : ℕ → View → Type 0

@@ -1,17 +1,20 @@
-ghost use Rattle.std.specs.Prelude.{◌≡◌, ℕ, ◌+◌, ◌≤◌, Bool, List, [], length, is_ok, if◌then◌else◌};
-ghost use Rattle.diagrams.specs.Tables.{table, no_table, child_ids};
+ghost use Rattle.std.specs.Prelude.{◌≡◌, ℕ, ◌+◌, ◌≤◌, Bool, List, [], length, not, ◌==◌, if◌then◌else◌, Some, None, IfOk, is_some, slice_get};
+ghost use Rattle.std.specs.Result.{result_err};
+ghost use Rattle.std.specs.List.{position, list_any};
+ghost use Rattle.values.specs.declared.faults.Fault.TheVariants.{ChildTooLarge};
+ghost use Rattle.diagrams.specs.Tables.{table, held, no_table, child_ids};
 ghost use Rattle.diagrams.specs.Held.{table_of};
-ghost use Rattle.diagrams.specs.Admission.{answer, key_refusal, name_refusal, too_large, child_refusal, range_refusal, cover_refusal, same_refusal, own_refusal, ranged_refusal, branches_refusal, node_refusal, first_refusal};
+ghost use Rattle.diagrams.specs.Admission.{key_refusal, name_refusal, too_large, child_refusal, range_refusal, cover_refusal, all_same, same_refusal, own_refusal, ranged_refusal, branches_refusal, node_refusal, first_refusal};
 ghost use Rattle.diagrams.specs.Rules.{Refuses, Sound};
 
 use crate::diagram::Diagram;
-use crate::rows::{Node, ReleaseEdge, TextEdge, own_edges};
+use crate::kinds::NodeKind;
+use crate::rows::{Node, ReleaseEdge, Rows, TextEdge, own_edges};
 use ranges::cover::uncovered_edge;
 use ranges::edges::{Edge, first_empty};
 use values::faults::Fault;
-use values::keys::{MarkerValueString, MarkerValueVersion};
+use values::keys::{Key, MarkerValueString, MarkerValueVersion};
 use values::orders::Order;
-use values::texts::Text;
 
 // How many nodes a diagram has at most.
 pub const MOST_NODES: usize = 4096;
@@ -21,28 +24,6 @@ pub const LEAST_EDGES: u32 = 2;
 
 pub const MOST_EDGES: u32 = 64;
 
-// Refusal 6.
-fn check_key(place: usize, known: bool) -> Result<(), Fault>
-    ensures { result ≡ answer (key_refusal place known) }
-{
-    if known {
-        Ok(())
-    } else {
-        Err(Fault::KeyOutOfRange { node: place })
-    }
-}
-
-// Refusal 7.
-fn check_name(place: usize, literal: &Text) -> Result<(), Fault>
-    ensures { result ≡ answer (name_refusal place literal.now) }
-{
-    if literal.is_normal_name() {
-        Ok(())
-    } else {
-        Err(Fault::ExtraNotNormal { node: place })
-    }
-}
-
 // Whether a child's id names the node at the place or one behind it.
 fn is_too_large(place: usize, child: u32) -> bool
     ensures { result ≡ too_large place child }
@@ -50,172 +31,241 @@ fn is_too_large(place: usize, child: u32) -> bool
     child as usize / 2 > place
 }
 
-// Refusal 10.
-fn check_children<T>(place: usize, edges: &[Edge<T>]) -> Result<(), Fault>
-    ensures { result ≡ answer (child_refusal place (child_ids edges.now)) }
-{
-    for (child, edge) in edges.iter().enumerate() {
-        if is_too_large(place, edge.child) {
-            return Err(Fault::ChildTooLarge { node: place, child });
-        }
-    }
-    Ok(())
-}
-
-// Refusal 11.
-fn check_ranges<T: Order>(place: usize, edges: &[Edge<T>]) -> Result<(), Fault>
-    ensures { result ≡ answer (range_refusal T.Order.row place edges.now) }
-{
-    match first_empty(edges) {
-        Some(edge) => Err(Fault::EmptyRange { node: place, edge }),
-        None => Ok(()),
-    }
-}
-
-// Refusal 12.
-fn check_cover<T: Order>(place: usize, edges: &[Edge<T>]) -> Result<(), Fault>
-    ensures { result ≡ answer (cover_refusal T.Order.row place edges.now) }
-{
-    match uncovered_edge(edges) {
-        Some(edge) => Err(Fault::Uncovered { node: place, edge }),
-        None => Ok(()),
-    }
-}
-
-// Refusal 13.
-fn check_difference<T>(place: usize, edges: &[Edge<T>]) -> Result<(), Fault>
-    ensures { result ≡ answer (same_refusal place (child_ids edges.now)) }
-{
-    if let [first, rest @ ..] = edges {
-        for edge in rest {
-            if edge.child != first.child {
-                return Ok(());
-            }
-        }
-    }
-    Err(Fault::OneChild { node: place })
-}
-
-// Refusals 10 to 13 of a node's own edges.
-fn check_own_edges<T: Order>(place: usize, edges: &[Edge<T>]) -> Result<(), Fault>
-    ensures { result ≡ answer (own_refusal T.Order.row place edges.now) }
-{
-    check_children(place, edges)?;
-    check_ranges(place, edges)?;
-    check_cover(place, edges)?;
-    check_difference(place, edges)
-}
-
-// Refusals 8 to 13 of a node with edges.
-fn check_edges<T: Order>(place: usize, node: &Node, edges: &[Edge<T>]) -> Result<(), Fault>
-    ensures { result ≡ answer (ranged_refusal T.Order.row place node.now edges.now) }
-{
-    if node.count < LEAST_EDGES || node.count > MOST_EDGES {
-        return Err(Fault::EdgeCount { node: place });
-    }
-    if node.first as usize + node.count as usize > edges.len() {
-        return Err(Fault::EdgesPastEnd { node: place });
-    }
-    check_own_edges(place, own_edges(edges, node))
-}
-
-// Refusals 10 and 13 of a node with a high and a low child.
-fn check_branches(place: usize, high: u32, low: u32) -> Result<(), Fault>
-    ensures { result ≡ answer (branches_refusal place high low) }
-{
-    if is_too_large(place, high) {
-        return Err(Fault::ChildTooLarge {
-            node: place,
-            child: 0,
-        });
-    }
-    if is_too_large(place, low) {
-        return Err(Fault::ChildTooLarge {
-            node: place,
-            child: 1,
-        });
-    }
-    if high == low {
-        return Err(Fault::OneChild { node: place });
-    }
-    Ok(())
-}
-
-// The first rule that a node breaks.
-fn check_node(
+// The edges of the node at a place.
+#[derive(Drop)]
+struct EdgesAt<'a, T> {
     place: usize,
-    node: &Node,
-    releases: &[ReleaseEdge],
-    texts: &[TextEdge],
-) -> Result<(), Fault>
-    ensures { result ≡ answer (node_refusal releases.now texts.now place node.now) }
-{
-    match node.kind {
-        0 => {
-            check_key(place, MarkerValueVersion::from_number(node.key).is_some())?;
-            check_edges(place, node, releases)
+    edges: &'a [Edge<T>],
+}
+
+impl<T> EdgesAt<'_, T> {
+    // The first edge whose child is too large.
+    fn first_too_large(&self) -> Option<usize>
+        ensures { result ≡ position (too_large self.now.place) (child_ids self.now.edges.now) }
+    {
+        let place = self.place;
+        self.edges
+            .iter()
+            .map(|edge| edge.child)
+            .position(|child| is_too_large(place, child))
+    }
+
+    // Refusal 10.
+    #[tactic(auto, using(crate::proofs::Checks::first_is_position))]
+    fn check_children(&self) -> Result<(), Fault>
+        ensures { result_err result ≡ child_refusal self.now.place (child_ids self.now.edges.now) }
+    {
+        let node = self.place;
+        self.first_too_large()
+            .map_or(Ok(()), |child| Err(Fault::ChildTooLarge { node, child }))
+    }
+
+    // Refusal 13.
+    fn check_difference(&self) -> Result<(), Fault>
+        ensures { result_err result ≡ same_refusal self.now.place (child_ids self.now.edges.now) }
+    {
+        if differ(self.edges) {
+            Ok(())
+        } else {
+            Err(Fault::OneChild { node: self.place })
         }
-        1 => {
-            check_key(place, MarkerValueString::from_number(node.key).is_some())?;
-            check_edges(place, node, texts)
-        }
-        2 | 3 => {
-            check_key(place, MarkerValueString::from_number(node.key).is_some())?;
-            check_branches(place, node.high, node.low)
-        }
-        4 => {
-            check_name(place, &node.literal)?;
-            check_branches(place, node.high, node.low)
-        }
-        5 => check_branches(place, node.high, node.low),
-        _ => Err(Fault::UnknownKind { node: place }),
     }
 }
 
-// The first rule that the lists break.
-#[tactic(auto, using(crate::proofs::Checks::many))]
-fn check_table(nodes: &[Node], releases: &[ReleaseEdge], texts: &[TextEdge]) -> Result<(), Fault>
-    ensures { result ≡ answer (first_refusal (table nodes.now releases.now texts.now)) }
+// Whether one of the edges leads to another child.
+fn leads_elsewhere<T>(child: u32, edges: &[Edge<T>]) -> bool
+    ensures { result ≡ list_any (λ d. not (d == child)) (child_ids edges.now) }
 {
-    if nodes.len() > MOST_NODES {
-        return Err(Fault::TooManyNodes);
+    edges
+        .iter()
+        .map(|edge| edge.child)
+        .any(|other| other != child)
+}
+
+// Whether two of the edges lead to different children.
+fn differ<T>(edges: &[Edge<T>]) -> bool
+    ensures { all_same (child_ids edges.now) ≡ not result }
+{
+    match edges {
+        [first, rest @ ..] => leads_elsewhere(first.child, rest),
+        [] => false,
     }
-    for (place, node) in nodes.iter().enumerate() {
-        check_node(place, node, releases, texts)?;
+}
+
+impl<T: Order> EdgesAt<'_, T> {
+    // Refusal 11.
+    fn check_ranges(&self) -> Result<(), Fault>
+        ensures { result_err result ≡ range_refusal T.Order.row self.now.place self.now.edges.now }
+    {
+        let node = self.place;
+        first_empty(self.edges).map_or(Ok(()), |edge| Err(Fault::EmptyRange { node, edge }))
     }
-    Ok(())
+
+    // Refusal 12.
+    fn check_cover(&self) -> Result<(), Fault>
+        ensures { result_err result ≡ cover_refusal T.Order.row self.now.place self.now.edges.now }
+    {
+        let node = self.place;
+        uncovered_edge(self.edges).map_or(Ok(()), |edge| Err(Fault::Uncovered { node, edge }))
+    }
+
+    // Refusals 10 to 13.
+    fn check(&self) -> Result<(), Fault>
+        ensures { result_err result ≡ own_refusal T.Order.row self.now.place self.now.edges.now }
+    {
+        self.check_children()?;
+        self.check_ranges()?;
+        self.check_cover()?;
+        self.check_difference()
+    }
+}
+
+// The node at a place.
+#[derive(Drop)]
+struct NodeAt<'a> {
+    place: usize,
+    node: &'a Node,
+}
+
+impl NodeAt<'_> {
+    // Refusal 6 of a node that has a key of the kind K.
+    fn check_key<K: Key>(&self) -> Result<(), Fault>
+        ensures { result_err result ≡ key_refusal self.now.place (is_some (slice_get K.Key.keys self.now.node.now.key)) }
+    {
+        if K::from_number(self.node.key).is_some() {
+            Ok(())
+        } else {
+            Err(Fault::KeyOutOfRange { node: self.place })
+        }
+    }
+
+    // Refusal 7.
+    fn check_name(&self) -> Result<(), Fault>
+        ensures { result_err result ≡ name_refusal self.now.place self.now.node.now.literal }
+    {
+        if self.node.literal.is_normal_name() {
+            Ok(())
+        } else {
+            Err(Fault::ExtraNotNormal { node: self.place })
+        }
+    }
+
+    // Refusals 8 to 13 of a node with edges, which lie in the list.
+    fn check_edges<T: Order>(&self, edges: &[Edge<T>]) -> Result<(), Fault>
+        ensures { result_err result ≡ ranged_refusal T.Order.row self.now.place self.now.node.now edges.now }
+    {
+        let NodeAt { place, node } = *self;
+        if node.count < LEAST_EDGES || node.count > MOST_EDGES {
+            return Err(Fault::EdgeCount { node: place });
+        }
+        if node.first as usize + node.count as usize > edges.len() {
+            return Err(Fault::EdgesPastEnd { node: place });
+        }
+        let edges = own_edges(edges, node);
+        EdgesAt { place, edges }.check()
+    }
+
+    // Refusal 10 of the high child, which is the child 0, or of the low one.
+    fn check_child(&self, child: usize, id: u32) -> Result<(), Fault>
+        ensures { result_err result ≡ (if too_large self.now.place id then Some (ChildTooLarge self.now.place child) else None) }
+    {
+        let node = self.place;
+        if is_too_large(node, id) {
+            Err(Fault::ChildTooLarge { node, child })
+        } else {
+            Ok(())
+        }
+    }
+
+    // Refusals 10 and 13 of a node with a high and a low child.
+    fn check_branches(&self) -> Result<(), Fault>
+        ensures { result_err result ≡ branches_refusal self.now.place self.now.node.now.high self.now.node.now.low }
+    {
+        self.check_child(0, self.node.high)?;
+        self.check_child(1, self.node.low)?;
+        if self.node.high == self.node.low {
+            return Err(Fault::OneChild { node: self.place });
+        }
+        Ok(())
+    }
+
+    // The first rule that the node breaks.
+    fn check(&self, rows: &Rows) -> Result<(), Fault>
+        ensures { result_err result ≡ node_refusal rows.now.releases.now rows.now.texts.now self.now.place self.now.node.now }
+    {
+        let node = self.node;
+        match NodeKind::from_number(node.kind) {
+            Some(NodeKind::Version) => {
+                self.check_key::<MarkerValueVersion>()?;
+                self.check_edges(rows.releases)
+            }
+            Some(NodeKind::String) => {
+                self.check_key::<MarkerValueString>()?;
+                self.check_edges(rows.texts)
+            }
+            Some(NodeKind::In | NodeKind::Contains) => {
+                self.check_key::<MarkerValueString>()?;
+                self.check_branches()
+            }
+            Some(NodeKind::Extra) => {
+                self.check_name()?;
+                self.check_branches()
+            }
+            Some(NodeKind::Arbitrary) => self.check_branches(),
+            None => Err(Fault::UnknownKind { node: self.place }),
+        }
+    }
+}
+
+impl Rows<'_> {
+    // The first rule that the lists break.
+    #[tactic(auto, using(crate::proofs::Checks::many, crate::proofs::Checks::few))]
+    fn check(&self) -> Result<(), Fault>
+        ensures { result_err result ≡ first_refusal (held self.now) }
+    {
+        if self.nodes.len() > MOST_NODES {
+            return Err(Fault::TooManyNodes);
+        }
+        for (place, node) in self.nodes.iter().enumerate() {
+            NodeAt { place, node }.check(self)?;
+        }
+        Ok(())
+    }
 }
 
 impl<'a> Diagram<'a> {
-    // The diagram of the lists, or the first rule that they break. Where they break one the diagram is that of empty
-    // lists, which knows TRUE and FALSE alone.
+    // The diagram of the lists, or the first rule that they break.
+    #[tactic(auto, using(crate::proofs::Lawful::refuses))]
     pub fn admit(
         nodes: &'a [Node],
         releases: &'a [ReleaseEdge],
         texts: &'a [TextEdge],
-    ) -> (Diagram<'a>, Result<(), Fault>)
-        ensures answer { result.1 ≡ answer (first_refusal (table nodes.now releases.now texts.now)) }
-        ensures diagram { table_of result.0 ≡ (if is_ok result.1 then table nodes.now releases.now texts.now else no_table) }
+    ) -> Result<Diagram<'a>, Fault>
+        ensures answer { result_err result ≡ first_refusal (table nodes.now releases.now texts.now) }
+        ensures diagram { IfOk result (λ d. table_of d ≡ table nodes.now releases.now texts.now) }
         ensures law { Refuses (table nodes.now releases.now texts.now) }
-        ensures sound { Sound (table_of result.0) }
+        ensures sound { IfOk result (λ d. Sound (table_of d)) }
     {
-        match check_table(nodes, releases, texts) {
-            Ok(()) => (
-                Diagram {
-                    nodes,
-                    releases,
-                    texts,
-                },
-                Ok(()),
-            ),
-            Err(fault) => (
-                Diagram {
-                    nodes: &[],
-                    releases: &[],
-                    texts: &[],
-                },
-                Err(fault),
-            ),
-        }
+        let rows = Rows {
+            nodes,
+            releases,
+            texts,
+        };
+        rows.check()?;
+        Ok(Diagram { rows })
+    }
+
+    // The diagram of empty lists, which knows TRUE and FALSE alone.
+    #[tactic(auto, using(crate::proofs::Lawful::sound), unfolding(crate::specs::Admission::first_refusal))]
+    pub fn empty() -> Diagram<'a>
+        ensures diagram { table_of result ≡ no_table }
+        ensures sound { Sound (table_of result) }
+    {
+        let rows = Rows {
+            nodes: &[],
+            releases: &[],
+            texts: &[],
+        };
+        Diagram { rows }
     }
 }

@@ -1,59 +1,73 @@
-ghost use Rattle.std.specs.Prelude.{◌≡◌, ℕ, ◌/◌, ◌≤◌, length, is_ok, Some};
+ghost use Rattle.std.specs.Prelude.{◌≡◌, ℕ, ◌/◌, ◌<◌, ◌≤◌, length, is_ok, Some, MatchOption, slice_get};
 ghost use Rattle.values.specs.Keys.{version_key_of, string_key_of};
 ghost use Rattle.diagrams.specs.Held.{table_of};
 ghost use Rattle.diagrams.specs.Rules.{SoundNode};
-ghost use Rattle.diagrams.specs.Views.{shown, shown_kind, view, node_view, branch_view, Shows};
+ghost use Rattle.diagrams.specs.Kinds.{kind_number};
+ghost use Rattle.diagrams.specs.Views.{shown, shown_kind, view, node_view, Shows};
 
 use crate::diagram::Diagram;
 use crate::ids::NodeId;
 use crate::rows::{Node, own_edges};
 use crate::views::{
-    ContainsMarkerTree, EdgesMarkerTree, ExtraMarkerTree, InMarkerTree, MarkerTreeKind,
-    MarkerValueExtra,
+    EdgesMarkerTree, ExtraMarkerTree, LiteralMarkerTree, MarkerTreeKind, MarkerValueExtra,
 };
 use values::faults::Fault;
-use values::keys::{MarkerValueString, MarkerValueVersion};
+use values::keys::Key;
 
-// The key of an admitted release node.
-fn version_key(number: u8) -> MarkerValueVersion
-    requires { number ≤ 2 }
-    ensures { Some result ≡ version_key_of number }
-{
-    match MarkerValueVersion::from_number(number) {
-        Some(key) => key,
-        None => unreachable(),
+// What a node is, by its number in a row.
+#[derive(Clone, Copy)]
+pub(crate) enum NodeKind {
+    Version,
+    String,
+    In,
+    Contains,
+    Extra,
+    Arbitrary,
+}
+
+// The kinds in the order of their numbers.
+const NODE_KINDS: [NodeKind; 6] = [
+    NodeKind::Version,
+    NodeKind::String,
+    NodeKind::In,
+    NodeKind::Contains,
+    NodeKind::Extra,
+    NodeKind::Arbitrary,
+];
+
+impl NodeKind {
+    // The kind that has a number, if one has.
+    pub(crate) fn from_number(number: u8) -> Option<NodeKind>
+        ensures { MatchOption result (5 < number) (λ kind. number ≡ kind_number kind) }
+    {
+        NODE_KINDS.get(number as usize).copied()
     }
 }
 
-// The key of another admitted node that has one.
-fn string_key(number: u8) -> MarkerValueString
-    requires { number ≤ 13 }
-    ensures { Some result ≡ string_key_of number }
+// The key of an admitted node that has one.
+fn known_key<K: Key>(number: u8) -> K
+    requires { number < length K.Key.keys }
+    ensures { Some result ≡ slice_get K.Key.keys number }
 {
-    match MarkerValueString::from_number(number) {
-        Some(key) => key,
-        None => unreachable(),
-    }
+    K::from_number(number).unwrap()
 }
 
 impl<'a> Diagram<'a> {
     // What an id stands for, or refusal 14.
+    #[tactic(auto, using(crate::proofs::Shows::shows_true, crate::proofs::Shows::shows_false, crate::proofs::Shows::unknown_id, crate::proofs::Shows::shows_node, crate::proofs::Viewing::view_shows, crate::proofs::Lawful::sound))]
     pub fn kind(&self, id: NodeId) -> Result<MarkerTreeKind<'a>, Fault>
         ensures answer { shown result ≡ view (table_of self.now) id.0 }
         ensures law { Shows (table_of self.now) id.0 }
     {
-        if id.0 == 0 {
+        if id == NodeId::TRUE {
             return Ok(MarkerTreeKind::True);
         }
-        if id.0 == 1 {
+        if id == NodeId::FALSE {
             return Ok(MarkerTreeKind::False);
         }
-        let nodes = self.nodes;
         let place = id.0 as usize / 2 - 1;
-        if place >= nodes.len() {
-            return Err(Fault::UnknownId);
-        }
-        Ok(self.node_kind(id, &nodes[place]))
+        let node = self.rows.nodes.get(place).ok_or(Fault::UnknownId)?;
+        Ok(self.node_kind(id, node))
     }
 
     // What a node shows under an id.
@@ -61,54 +75,47 @@ impl<'a> Diagram<'a> {
         requires { (i : ℕ) × SoundNode (table_of self.now) i node.now }
         ensures { Some (shown_kind result) ≡ node_view (table_of self.now) id.0 node.now }
     {
-        match node.kind {
-            0 => MarkerTreeKind::Version(EdgesMarkerTree {
+        let value = &node.literal;
+        let high = NodeId(node.high).under(id);
+        let low = NodeId(node.low).under(id);
+        match NodeKind::from_number(node.kind).unwrap() {
+            NodeKind::Version => MarkerTreeKind::Version(EdgesMarkerTree {
                 id,
-                key: version_key(node.key),
-                edges: own_edges(self.releases, node),
+                key: known_key(node.key),
+                edges: own_edges(self.rows.releases, node),
             }),
-            1 => MarkerTreeKind::String(EdgesMarkerTree {
+            NodeKind::String => MarkerTreeKind::String(EdgesMarkerTree {
                 id,
-                key: string_key(node.key),
-                edges: own_edges(self.texts, node),
+                key: known_key(node.key),
+                edges: own_edges(self.rows.texts, node),
             }),
-            _ => branch_kind(id, node),
+            NodeKind::In => MarkerTreeKind::In(literal_tree(node, high, low)),
+            NodeKind::Contains => MarkerTreeKind::Contains(literal_tree(node, high, low)),
+            NodeKind::Extra => MarkerTreeKind::Extra(ExtraMarkerTree {
+                name: MarkerValueExtra::Extra(value),
+                high,
+                low,
+            }),
+            NodeKind::Arbitrary => MarkerTreeKind::Extra(ExtraMarkerTree {
+                name: MarkerValueExtra::Arbitrary(value),
+                high,
+                low,
+            }),
         }
     }
 }
 
-// What a node with a high and a low child shows under an id.
-fn branch_kind<'a>(id: NodeId, node: &'a Node) -> MarkerTreeKind<'a>
-    requires kind { 2 ≤ node.now.kind }
-    requires low { node.now.kind ≤ 5 }
-    requires key { node.now.kind ≤ 3 → node.now.key ≤ 13 }
-    ensures { Some (shown_kind result) ≡ branch_view id.0 node.now }
+// What an admitted node with a key and a literal shows.
+fn literal_tree(node: &Node, high: NodeId, low: NodeId) -> LiteralMarkerTree<'_>
+    requires { node.now.key ≤ 13 }
+    ensures key { Some result.key ≡ string_key_of node.now.key }
+    ensures value { result.value.now ≡ node.now.literal }
+    ensures children { (result.high ≡ high) × (result.low ≡ low) }
 {
-    let high = NodeId(node.high).under(id);
-    let low = NodeId(node.low).under(id);
-    let value = &node.literal;
-    match node.kind {
-        2 => MarkerTreeKind::In(InMarkerTree {
-            key: string_key(node.key),
-            value,
-            high,
-            low,
-        }),
-        3 => MarkerTreeKind::Contains(ContainsMarkerTree {
-            key: string_key(node.key),
-            value,
-            high,
-            low,
-        }),
-        4 => MarkerTreeKind::Extra(ExtraMarkerTree {
-            name: MarkerValueExtra::Extra(value),
-            high,
-            low,
-        }),
-        _ => MarkerTreeKind::Extra(ExtraMarkerTree {
-            name: MarkerValueExtra::Arbitrary(value),
-            high,
-            low,
-        }),
+    LiteralMarkerTree {
+        key: known_key(node.key),
+        value: &node.literal,
+        high,
+        low,
     }
 }

@@ -22,6 +22,14 @@ pub struct Node {
     pub low: u32,
 }
 
+// The three lists of a diagram.
+#[derive(Clone, Copy)]
+pub(crate) struct Rows<'a> {
+    pub(crate) nodes: &'a [Node],
+    pub(crate) releases: &'a [ReleaseEdge],
+    pub(crate) texts: &'a [TextEdge],
+}
+
 // The node's own part of a list of edges.
 pub(crate) fn own_edges<'a, T>(edges: &'a [Edge<T>], node: &Node) -> &'a [Edge<T>]
     requires { node.now.first + node.now.count ≤ length edges.now }

@@ -40,23 +40,20 @@ impl<K, T> EdgesMarkerTree<'_, K, T> {
     }
 }
 
-// Whether the text of a key lies in a literal: high where it does.
+// A node with a key and a literal, as the id shows it.
 #[derive(Clone, Copy)]
-pub struct InMarkerTree<'a> {
+pub struct LiteralMarkerTree<'a> {
     pub key: MarkerValueString,
     pub value: &'a Text,
     pub high: NodeId,
     pub low: NodeId,
 }
 
+// Whether the text of a key lies in a literal: high where it does.
+pub type InMarkerTree<'a> = LiteralMarkerTree<'a>;
+
 // Whether a literal lies in the text of a key: high where it does.
-#[derive(Clone, Copy)]
-pub struct ContainsMarkerTree<'a> {
-    pub key: MarkerValueString,
-    pub value: &'a Text,
-    pub high: NodeId,
-    pub low: NodeId,
-}
+pub type ContainsMarkerTree<'a> = LiteralMarkerTree<'a>;
 
 // The name of an extra: a normal name, or any text, which is never active.
 #[derive(Clone, Copy)]

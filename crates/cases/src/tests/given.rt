@@ -34,7 +34,7 @@ pub fn admission<'a>(
     releases: &'a [ReleaseEdge],
     texts: &'a [TextEdge],
 ) -> [usize; 4] {
-    told(Diagram::admit(nodes, releases, texts).1)
+    told(Diagram::admit(nodes, releases, texts).map(|_| ()))
 }
 
 // What admission tells of the node alone.
