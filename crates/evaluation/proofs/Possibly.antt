@@ -1,7 +1,8 @@
 -- What an id may say, one level at a time, and the law of the two evaluations of extras.
-use Rattle.std.proofs.Common.{◌≡◌, ℕ, zero, suc, ◌/◌, ◌<◌, ◌≤◌, Bool, true, false, cond, ◌&&◌, ◌||◌, List, [], ◌∷◌, length, get_or, is_some, is_ok, Some, None, Ok, Err, Option, Result, Ordering, Less, Equal, Greater, sym, refl, ap, ◌∙◌, inl, inr, le_of_suc-le-suc, not-suc-le-zero, arith}
+use Rattle.std.proofs.Common.{◌≡◌, ◌≢◌, ℕ, zero, suc, ◌+◌, ◌/◌, ◌<◌, ◌≤◌, Bool, true, false, cond, ◌&&◌, ◌||◌, List, [], ◌∷◌, length, get_or, set, is_some, is_ok, Some, None, Ok, Err, Option, Result, Ordering, Less, Equal, Greater, sym, refl, ap, ◌∙◌, inl, inr, le_of_suc-le-suc, not-suc-le-zero, arith, below_more}
 use Rattle.std.specs.Ordering.{is_eq}
 use Rattle.std.proofs.lemmas.Bool.{cases_Bool, and_parts, and_from, or_cases, or_left, or_right, leb-true, true≢false}
+use Rattle.std.proofs.lemmas.List.{get_or-set_same, get_or-set_other}
 use Rattle.values.specs.Lists.{any}
 use Rattle.values.specs.Rows.{by_row}
 use Rattle.values.specs.Releases.{release_row}
@@ -63,6 +64,13 @@ module _ (names : List Text) (rs : Option (List Release)) where
     pub extras_from : (id : ℕ) (s : ℕ → Bool) → ((c : ℕ) → c < id → s c ≡ extras names rs t c) → on_result names rs s (view t id) ≡ extras names rs t id
     unfolding extras
     extras_from id s h = result_same id s (extras_by id names rs t) (λ c lt. h c lt ∙ extras_fuel (suc c) id c (omega arith) lt) (view t id) refl
+
+    -- one more id is settled
+    pub settled_more : (id : ℕ) (table : List Bool) (b : Bool) → id < length table → b ≡ on_result names rs (λ c. get_or table c false) (view t id) → ((c : ℕ) → c < id → get_or table c false ≡ extras names rs t c) → (c : ℕ) → c < id + 1 → get_or (set table id b) c false ≡ extras names rs t c
+    settled_more id table b lt e h =
+        below_more (λ c. get_or (set table id b) c false ≡ extras names rs t c) id
+        (λ c l. let ne : c ≢ id = omega arith in get_or-set_other table id c b false ne ∙ h c l)
+        (get_or-set_same table id b false lt ∙ e ∙ extras_from id (λ c. get_or table c false) h)
 
     extras_at : (id : ℕ) (v : View) → view t id ≡ Ok v → extras names rs t id ≡ may_say names rs (extras names rs t) v
     extras_at id v e = sym (extras_from id (extras names rs t) (λ c lt. refl)) ∙ ap (on_result names rs (extras names rs t)) e

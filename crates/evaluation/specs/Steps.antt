@@ -1,5 +1,5 @@
 -- What a step of the code says.
-use Rattle.std.specs.Prelude.{Bool, false, List}
+use Rattle.std.specs.Prelude.{ℕ, Bool, false, List, slice_index_or}
 use Rattle.values.specs.Texts.{text_bytes}
 use Rattle.diagrams.specs.declared.views.MarkerValueExtra.{MarkerValueExtra}
 use Rattle.diagrams.specs.declared.views.MarkerValueExtra.TheVariants.{Extra, Arbitrary}
@@ -7,6 +7,7 @@ use Rattle.values.specs.declared.texts.Text.{Text}
 use Rattle.hosts.specs.Hosts.{Meaning}
 use Rattle.hosts.specs.Records.{among}
 use Rattle.evaluation.specs.Walks.{Where, ends, goes}
+use Rattle.evaluation.specs.declared.extras.Asked.{Asked}
 use Rattle.evaluation.specs.declared.evaluation.Step.{Step}
 use Rattle.evaluation.specs.declared.evaluation.Step.TheVariants.{Ends, Goes}
 
@@ -23,3 +24,7 @@ active_extra m (Arbitrary t) = false
 abbrev pub named_among : List Text → MarkerValueExtra → Bool
 named_among names (Extra t) = among names (text_bytes t.now)
 named_among names (Arbitrary t) = false
+
+-- what an id that is settled may say
+abbrev pub settled : Asked → ℕ → Bool
+settled a id = slice_index_or a.table id false
