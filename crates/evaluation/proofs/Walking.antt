@@ -1,5 +1,7 @@
 -- The walk, one view at a time, with no count of steps.
-use Rattle.std.proofs.Common.{◌≡◌, ℕ, zero, suc, ◌+◌, ◌<◌, ◌≤◌, Bool, true, false, cond, List, [], ◌∷◌, ◌++◌, map, length, get_or, drop, is_some, Ok, Err, Result, sym, refl, ap, ◌∙◌, subst, inl, inr, not-suc-le-zero, arith}
+use Rattle.std.proofs.Common.{◌≡◌, ℕ, zero, suc, ◌+◌, ◌<◌, ◌≤◌, Bool, true, false, cond, List, [], ◌∷◌, ◌++◌, map, length, get_or, drop, is_some, Some, None, Ok, Err, Option, Bor, Result, sym, refl, ap, ◌∙◌, subst, inl, inr, not-suc-le-zero, arith}
+use Rattle.std.specs.List.{find}
+use Rattle.std.specs.Option.{option_map, unwrap_or}
 use Rattle.std.proofs.lemmas.List.{at_drop_more, at_drop_all, append-nil}
 use Rattle.std.proofs.lemmas.Bool.{cases_Bool}
 use Rattle.values.specs.Lists.{times}
@@ -34,6 +36,18 @@ chosen_turn row v id es i d b lt e =
 
 pub chosen_end : {T : Type 0} (row : T → Row) (v : Row) (id : ℕ) (es : List (Edge T)) (i : ℕ) → length es ≤ i → chosen row v (map (seen id) (drop i es)) ≡ 1
 chosen_end row v id es i le = at_drop_all (λ fs. chosen row v (map (seen id) fs)) es i le
+
+-- the edge that is found leads there, and with none the search ends at FALSE
+pub found_leads : {T : Type 0} (row : T → Row) (v : Row) (id : ℕ) (es : List (Edge T)) (o : Option (Bor (Edge T))) → option_map (λ (x : Bor (Edge T)). x.now) o ≡ find (λ e. lies row e v) es → unwrap_or (option_map (λ (x : Bor (Edge T)). turned id x.now.child) o) 1 ≡ chosen row v (map (seen id) es)
+found_leads {T} row v id es o e = by o ∙ ap (λ (q : Option (Edge T)). unwrap_or (option_map (λ (x : Edge T). turned id x.child) q) 1) e ∙ leads es
+  where
+    by : (q : Option (Bor (Edge T))) → unwrap_or (option_map (λ (x : Bor (Edge T)). turned id x.now.child) q) 1 ≡ unwrap_or (option_map (λ (x : Edge T). turned id x.child) (option_map (λ (x : Bor (Edge T)). x.now) q)) 1
+    by None = refl
+    by (Some x) = refl
+
+    leads : (fs : List (Edge T)) → unwrap_or (option_map (λ (x : Edge T). turned id x.child) (find (λ f. lies row f v) fs)) 1 ≡ chosen row v (map (seen id) fs)
+    leads [] = refl
+    leads (f ∷ fs) = elim (cases_Bool (lies row f v)) [ inl q ↦ rw q | inr q ↦ rw q (leads fs) ]
 
 pub examined_turn : (key : MarkerValueString) (v : Row) (id : ℕ) (es : List (Edge Text)) (i : ℕ) (d : Edge Text) (b : Bool) → i < length es → b ≡ lies text_bytes (get_or es i d) v
     → examined key v (map (seen id) (drop i es)) ≡ edge_reports key (get_or es i d) ++ cond b [] (examined key v (map (seen id) (drop (i + 1) es)))

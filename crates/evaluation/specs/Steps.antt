@@ -1,6 +1,9 @@
 -- What a step of the code says.
 use Rattle.std.specs.Prelude.{ℕ, Bool, false, List, slice_index_or}
 use Rattle.values.specs.Texts.{text_bytes}
+use Rattle.std.specs.declared.ops.ControlFlow.{ControlFlow}
+use Rattle.std.specs.declared.ops.ControlFlow.TheVariants.{Break, Continue}
+use Rattle.diagrams.specs.declared.ids.NodeId.{NodeId}
 use Rattle.diagrams.specs.declared.views.MarkerValueExtra.{MarkerValueExtra}
 use Rattle.diagrams.specs.declared.views.MarkerValueExtra.TheVariants.{Extra, Arbitrary}
 use Rattle.values.specs.declared.texts.Text.{Text}
@@ -8,12 +11,11 @@ use Rattle.hosts.specs.Hosts.{Meaning}
 use Rattle.hosts.specs.Records.{among}
 use Rattle.evaluation.specs.Walks.{Where, ends, goes}
 use Rattle.evaluation.specs.declared.extras.Asked.{Asked}
-use Rattle.evaluation.specs.declared.evaluation.Step.{Step}
-use Rattle.evaluation.specs.declared.evaluation.Step.TheVariants.{Ends, Goes}
 
-abbrev pub shown_step : Step → Where
-shown_step (Ends b) = ends b
-shown_step (Goes id) = goes id.0
+-- an answer, or the id that a view leads to
+abbrev pub shown_step : ControlFlow Bool NodeId → Where
+shown_step (Break b) = ends b
+shown_step (Continue id) = goes id.0
 
 -- a named extra is active when its name is, one with any text never
 abbrev pub active_extra : Meaning → MarkerValueExtra → Bool

@@ -20,6 +20,7 @@ use hosts::reporters::Reporter;
 use hosts::warnings::{MarkerWarningKind, Report};
 use ranges::edges::Edge;
 use ranges::points::{HostText, Point};
+use std::ops::ControlFlow;
 use values::bounds::Bound;
 use values::faults::Fault;
 use values::keys::MarkerValueString;
@@ -40,16 +41,10 @@ fn is_single(lower: &Bound<Text>, upper: &Bound<Text>) -> bool
 fn report_bound<R: Reporter>(reporter: &mut R, key: MarkerValueString, bound: &Bound<Text>)
     ensures { R.Reporter.tally reporter.new ≡ reported (R.Reporter.tally reporter.old) (bound_reports key bound.now) }
 {
-    let kind = MarkerWarningKind::LexicographicComparison;
     match bound {
         Bound::Unbounded => {}
-        Bound::Included(literal) => reporter.report(Report {
-            kind,
-            key,
-            literal: *literal,
-        }),
-        Bound::Excluded(literal) => reporter.report(Report {
-            kind,
+        Bound::Included(literal) | Bound::Excluded(literal) => reporter.report(Report {
+            kind: MarkerWarningKind::LexicographicComparison,
             key,
             literal: *literal,
         }),
@@ -71,12 +66,10 @@ fn choose_version<H: Host>(tree: &VersionMarkerTree, host: &H) -> NodeId
     ensures { result.0 ≡ chosen release_row (release_row ((H.Host.means host.now).release tree.now.key)) (map (seen tree.now.id.0) tree.now.edges.now) }
 {
     let release = host.get_version(tree.key);
-    for edge in tree.edges {
-        if edge.contains(release) {
-            return tree.child(edge);
-        }
+    match tree.edges.iter().find(|edge| edge.contains(release)) {
+        Some(edge) => tree.child(edge),
+        None => NodeId::FALSE,
     }
-    NodeId::FALSE
 }
 
 // Where the range of a text node that contains the host's text leads. The edges are examined from the first to that
@@ -92,9 +85,7 @@ fn choose_string<H: Host, R: Reporter>(
     let text = HostText {
         bytes: host.get_string(tree.key),
     };
-    let edges = tree.edges;
-    for place in 0..edges.len() {
-        let edge = &edges[place];
+    for edge in tree.edges {
         report_edge(reporter, tree.key, edge);
         if edge.contains(&text) {
             return tree.child(edge);
@@ -113,34 +104,27 @@ fn is_active<H: Host>(name: &MarkerValueExtra, host: &H) -> bool
     }
 }
 
-// What comes of a view: an answer, or the id that it leads to.
-#[derive(Clone, Copy)]
-pub(crate) enum Step {
-    Ends(bool),
-    Goes(NodeId),
-}
-
-// Where a view leads on a host. The reports go to the reporter.
-fn lead<H: Host, R: Reporter>(kind: &MarkerTreeKind, host: &H, reporter: &mut R) -> Step
+// Where a view leads on a host: to an answer, or on to an id. The reports go to the reporter.
+fn lead<H: Host, R: Reporter>(kind: &MarkerTreeKind, host: &H, reporter: &mut R) -> ControlFlow<bool, NodeId>
     ensures step { shown_step result ≡ the_lead (H.Host.means host.now) (shown_kind kind.now) }
     ensures reports { R.Reporter.tally reporter.new ≡ reported (R.Reporter.tally reporter.old) (told (H.Host.means host.now) (shown_kind kind.now)) }
 {
     match kind {
-        MarkerTreeKind::True => Step::Ends(true),
-        MarkerTreeKind::False => Step::Ends(false),
-        MarkerTreeKind::Version(tree) => Step::Goes(choose_version(tree, host)),
-        MarkerTreeKind::String(tree) => Step::Goes(choose_string(tree, host, reporter)),
+        MarkerTreeKind::True => ControlFlow::Break(true),
+        MarkerTreeKind::False => ControlFlow::Break(false),
+        MarkerTreeKind::Version(tree) => ControlFlow::Continue(choose_version(tree, host)),
+        MarkerTreeKind::String(tree) => ControlFlow::Continue(choose_string(tree, host, reporter)),
         MarkerTreeKind::In(tree) => {
             let high = contains(tree.value.as_bytes(), host.get_string(tree.key));
-            Step::Goes(if high { tree.high } else { tree.low })
+            ControlFlow::Continue(if high { tree.high } else { tree.low })
         }
         MarkerTreeKind::Contains(tree) => {
             let high = contains(host.get_string(tree.key), tree.value.as_bytes());
-            Step::Goes(if high { tree.high } else { tree.low })
+            ControlFlow::Continue(if high { tree.high } else { tree.low })
         }
         MarkerTreeKind::Extra(tree) => {
             let high = is_active(&tree.name, host);
-            Step::Goes(if high { tree.high } else { tree.low })
+            ControlFlow::Continue(if high { tree.high } else { tree.low })
         }
     }
 }
@@ -160,8 +144,8 @@ pub fn evaluate<H: Host, R: Reporter>(
     loop {
         let kind = diagram.kind(at)?;
         match lead(&kind, host, reporter) {
-            Step::Ends(answer) => return Ok(answer),
-            Step::Goes(child) => at = child,
+            ControlFlow::Break(answer) => return Ok(answer),
+            ControlFlow::Continue(child) => at = child,
         }
     }
 }

@@ -23,26 +23,26 @@ returns-then-contains g c =
     let key = c.args.tree.now.key in
     let id : ℕ = c.args.tree.now.id.0 in
     let es = c.args.tree.now.edges.now in
-    let i : ℕ = c.loop-place.place in
+    let i : ℕ = c.loop-edge.edge-index in
     let v : Row = c.get_string.result.now in
-    let before : Tally = g.R.Reporter.tally c.loop-place.reporter in
+    let before : Tally = g.R.Reporter.tally c.loop-edge.reporter in
     let now-told : Tally = g.R.Reporter.tally c.report_edge.new.reporter in
     record {
-      child = child-at-host id es v _ c.child.result.0 c.get_string.ensures (c.child.ensures ∙ sym (chosen_turn text_bytes v id es i no_edge true c.loop-place-test.true c.if-contains.ensures) ∙ c.loop-place.invariant.0);
-      reports = reports-at-host key id es v _ (g.R.Reporter.tally c.args.reporter.now) now-told c.get_string.ensures (told_turn key v id es i no_edge true before now-told c.loop-place-test.true c.if-contains.ensures c.report_edge.ensures ∙ c.loop-place.invariant.1);
+      child = child-at-host id es v _ c.child.result.0 c.get_string.ensures (c.child.ensures ∙ sym (chosen_turn text_bytes v id es i no_edge true c.loop-edge-test.true c.if-contains.ensures) ∙ c.loop-edge.invariant.0);
+      reports = reports-at-host key id es v _ (g.R.Reporter.tally c.args.reporter.now) now-told c.get_string.ensures (told_turn key v id es i no_edge true before now-told c.loop-edge-test.true c.if-contains.ensures c.report_edge.ensures ∙ c.loop-edge.invariant.1);
     }
 
-pub loop-place-preserved : goal.loop-place-preserved
-loop-place-preserved g c =
+pub loop-edge-preserved : goal.loop-edge-preserved
+loop-edge-preserved g c =
     let key = c.args.tree.now.key in
     let id : ℕ = c.args.tree.now.id.0 in
     let es = c.args.tree.now.edges.now in
-    let i : ℕ = c.loop-place.place in
+    let i : ℕ = c.loop-edge.edge-index in
     let v : Row = c.get_string.result.now in
-    let before : Tally = g.R.Reporter.tally c.loop-place.reporter in
+    let before : Tally = g.R.Reporter.tally c.loop-edge.reporter in
     let now-told : Tally = g.R.Reporter.tally c.report_edge.new.reporter in (
-      sym (chosen_turn text_bytes v id es i no_edge false c.loop-place-test.true c.if-contains.ensures) ∙ c.loop-place.invariant.0,
-      told_turn key v id es i no_edge false before now-told c.loop-place-test.true c.if-contains.ensures c.report_edge.ensures ∙ c.loop-place.invariant.1,
+      sym (chosen_turn text_bytes v id es i no_edge false c.loop-edge-test.true c.if-contains.ensures) ∙ c.loop-edge.invariant.0,
+      told_turn key v id es i no_edge false before now-told c.loop-edge-test.true c.if-contains.ensures c.report_edge.ensures ∙ c.loop-edge.invariant.1,
     )
 
 pub returns : goal.returns
@@ -50,10 +50,10 @@ returns g c =
     let key = c.args.tree.now.key in
     let id : ℕ = c.args.tree.now.id.0 in
     let es = c.args.tree.now.edges.now in
-    let i : ℕ = c.loop-place.place in
+    let i : ℕ = c.loop-edge.edge-index in
     let v : Row = c.get_string.result.now in
-    let all : Tally = g.R.Reporter.tally c.loop-place.reporter in
+    let all : Tally = g.R.Reporter.tally c.loop-edge.reporter in
     record {
-      child = child-at-host id es v _ 1 c.get_string.ensures (sym (chosen_end text_bytes v id es i c.loop-place-test.false) ∙ c.loop-place.invariant.0);
-      reports = reports-at-host key id es v _ (g.R.Reporter.tally c.args.reporter.now) all c.get_string.ensures (sym (ap (reported all) (examined_end key v id es i c.loop-place-test.false)) ∙ c.loop-place.invariant.1);
+      child = child-at-host id es v _ 1 c.get_string.ensures (sym (chosen_end text_bytes v id es i c.loop-edge-test.false) ∙ c.loop-edge.invariant.0);
+      reports = reports-at-host key id es v _ (g.R.Reporter.tally c.args.reporter.now) all c.get_string.ensures (sym (ap (reported all) (examined_end key v id es i c.loop-edge-test.false)) ∙ c.loop-edge.invariant.1);
     }

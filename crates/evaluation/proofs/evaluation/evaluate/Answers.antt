@@ -25,8 +25,8 @@ returns-in_err-kind g c =
       law = evaluates t c.args.diagram.now.admitted;
     }
 
-pub returns-in-Ends : goal.returns-in-Ends
-returns-in-Ends g c =
+pub returns-in-Break : goal.returns-in-Break
+returns-in-Break g c =
     let m : Meaning = g.H.Host.means c.args.host.now in
     let t : Table = table_of c.args.diagram.now in
     let a = c.args.diagram.now.admitted in
@@ -35,10 +35,10 @@ returns-in-Ends g c =
     let told : Tally = g.R.Reporter.tally c.loop-kind.reporter in
     let more : Tally = g.R.Reporter.tally c.lead.new.reporter in
     let shows = sym c.in_ok-kind.ensures.answer in
-    let stops = sym c.in-Ends.ensures.step in
+    let stops = sym c.in-Break.ensures.step in
     record {
-      answer = answer_end m t a id v c.in-Ends.answer shows stops ∙ c.loop-kind.invariant.0;
-      reports = reports_end m t a id v c.in-Ends.answer told more shows stops c.in-Ends.ensures.reports ∙ c.loop-kind.invariant.1;
+      answer = answer_end m t a id v c.in-Break.answer shows stops ∙ c.loop-kind.invariant.0;
+      reports = reports_end m t a id v c.in-Break.answer told more shows stops c.in-Break.ensures.reports ∙ c.loop-kind.invariant.1;
       law = evaluates t a;
     }
 
@@ -52,9 +52,9 @@ loop-kind-preserved g c =
     let told : Tally = g.R.Reporter.tally c.loop-kind.reporter in
     let more : Tally = g.R.Reporter.tally c.lead.new.reporter in
     let shows = sym c.in_ok-kind.ensures.answer in
-    let leads = sym c.in-Goes.ensures.step in (
-      answer_more m t a id v c.in-Goes.child.0 shows leads ∙ c.loop-kind.invariant.0,
-      reports_more m t a id v c.in-Goes.child.0 told more shows leads c.in-Goes.ensures.reports ∙ c.loop-kind.invariant.1,
+    let leads = sym c.in-Continue.ensures.step in (
+      answer_more m t a id v c.in-Continue.child.0 shows leads ∙ c.loop-kind.invariant.0,
+      reports_more m t a id v c.in-Continue.child.0 told more shows leads c.in-Continue.ensures.reports ∙ c.loop-kind.invariant.1,
     )
 
 pub loop-kind-smaller : goal.loop-kind-smaller
@@ -64,4 +64,4 @@ loop-kind-smaller g c =
     let a = c.args.diagram.now.admitted in
     let id : ℕ = c.loop-kind.at.0 in
     let v : View = shown_kind c.in_ok-kind.kind in
-    lead_below m id v ((view_shows t a id).sound v (sym c.in_ok-kind.ensures.answer)) c.in-Goes.child.0 (sym c.in-Goes.ensures.step)
+    lead_below m id v ((view_shows t a id).sound v (sym c.in_ok-kind.ensures.answer)) c.in-Continue.child.0 (sym c.in-Continue.ensures.step)
