@@ -5,11 +5,10 @@ ghost use Rattle.ranges.specs.Bounds.{lies};
 ghost use Rattle.diagrams.specs.Held.{table_of};
 ghost use Rattle.diagrams.specs.Ids.{turned};
 ghost use Rattle.diagrams.specs.Views.{shown_kind, seen};
-ghost use Rattle.hosts.specs.Tallies.{reported};
 ghost use Rattle.hosts.specs.Hosts.{text_of};
 ghost use Rattle.evaluation.specs.Walks.{bound_reports, single, edge_reports, examined, chosen, lead as the_lead, told, walk};
 ghost use Rattle.evaluation.specs.Evaluation.{Evaluates};
-ghost use Rattle.evaluation.specs.Steps.{shown_step, active_extra};
+ghost use Rattle.evaluation.specs.Steps.{Tells, shown_step, name_passes};
 
 use crate::substrings::contains;
 use diagrams::diagram::Diagram;
@@ -39,7 +38,7 @@ fn is_single(lower: &Bound<Text>, upper: &Bound<Text>) -> bool
 
 // Reports a bound that has a value.
 fn report_bound<R: Reporter>(reporter: &mut R, key: MarkerValueString, bound: &Bound<Text>)
-    ensures { R.Reporter.tally reporter.new ≡ reported (R.Reporter.tally reporter.old) (bound_reports key bound.now) }
+    ensures { Tells R.Reporter.tally reporter.old reporter.new (bound_reports key bound.now) }
 {
     match bound {
         Bound::Unbounded => {}
@@ -53,7 +52,7 @@ fn report_bound<R: Reporter>(reporter: &mut R, key: MarkerValueString, bound: &B
 
 // Reports the bounds of an edge that have values, the lower first, unless the edge is one value.
 fn report_edge<R: Reporter>(reporter: &mut R, key: MarkerValueString, edge: &Edge<Text>)
-    ensures { R.Reporter.tally reporter.new ≡ reported (R.Reporter.tally reporter.old) (edge_reports key edge.now) }
+    ensures { Tells R.Reporter.tally reporter.old reporter.new (edge_reports key edge.now) }
 {
     if !is_single(&edge.lower, &edge.upper) {
         report_bound(reporter, key, &edge.lower);
@@ -80,7 +79,7 @@ fn choose_string<H: Host, R: Reporter>(
     reporter: &mut R,
 ) -> NodeId
     ensures child { result.0 ≡ chosen text_bytes (text_of (H.Host.means host.now) tree.now.key) (map (seen tree.now.id.0) tree.now.edges.now) }
-    ensures reports { R.Reporter.tally reporter.new ≡ reported (R.Reporter.tally reporter.old) (examined tree.now.key (text_of (H.Host.means host.now) tree.now.key) (map (seen tree.now.id.0) tree.now.edges.now)) }
+    ensures reports { Tells R.Reporter.tally reporter.old reporter.new (examined tree.now.key (text_of (H.Host.means host.now) tree.now.key) (map (seen tree.now.id.0) tree.now.edges.now)) }
 {
     let text = HostText {
         bytes: host.get_string(tree.key),
@@ -96,7 +95,7 @@ fn choose_string<H: Host, R: Reporter>(
 
 // Whether an extra is active on a host; one whose name is any text never is.
 fn is_active<H: Host>(name: &MarkerValueExtra, host: &H) -> bool
-    ensures { result ≡ active_extra (H.Host.means host.now) name.now }
+    ensures { result ≡ name_passes (H.Host.means host.now).active name.now }
 {
     match name {
         MarkerValueExtra::Extra(name) => host.is_active(name),
@@ -107,7 +106,7 @@ fn is_active<H: Host>(name: &MarkerValueExtra, host: &H) -> bool
 // Where a view leads on a host: to an answer, or on to an id. The reports go to the reporter.
 fn lead<H: Host, R: Reporter>(kind: &MarkerTreeKind, host: &H, reporter: &mut R) -> ControlFlow<bool, NodeId>
     ensures step { shown_step result ≡ the_lead (H.Host.means host.now) (shown_kind kind.now) }
-    ensures reports { R.Reporter.tally reporter.new ≡ reported (R.Reporter.tally reporter.old) (told (H.Host.means host.now) (shown_kind kind.now)) }
+    ensures reports { Tells R.Reporter.tally reporter.old reporter.new (told (H.Host.means host.now) (shown_kind kind.now)) }
 {
     match kind {
         MarkerTreeKind::True => ControlFlow::Break(true),
@@ -137,7 +136,7 @@ pub fn evaluate<H: Host, R: Reporter>(
     reporter: &mut R,
 ) -> Result<bool, Fault>
     ensures answer { result ≡ (walk (H.Host.means host.now) (table_of diagram.now) root.0).answer }
-    ensures reports { R.Reporter.tally reporter.new ≡ reported (R.Reporter.tally reporter.old) (walk (H.Host.means host.now) (table_of diagram.now) root.0).reports }
+    ensures reports { Tells R.Reporter.tally reporter.old reporter.new (walk (H.Host.means host.now) (table_of diagram.now) root.0).reports }
     ensures law { Evaluates (table_of diagram.now) }
 {
     let mut at = root;

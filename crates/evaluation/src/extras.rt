@@ -4,8 +4,9 @@ ghost use Rattle.values.specs.Lists.{any};
 ghost use Rattle.diagrams.specs.Held.{table_of};
 ghost use Rattle.diagrams.specs.Ids.{turned};
 ghost use Rattle.diagrams.specs.Views.{shown_kind, seen, view};
+ghost use Rattle.hosts.specs.Records.{among};
 ghost use Rattle.evaluation.specs.Extras.{counts as does_count, may_say, on_result, extras_answer, ExtrasLaw};
-ghost use Rattle.evaluation.specs.Steps.{named_among, settled};
+ghost use Rattle.evaluation.specs.Steps.{name_passes, settled};
 
 use diagrams::diagram::Diagram;
 use diagrams::ids::NodeId;
@@ -66,7 +67,7 @@ impl Asked<'_> {
 
     // Whether the name of an extra is among the names; one with any text never is.
     fn is_named(&self, name: &MarkerValueExtra) -> bool
-        ensures { result ≡ named_among self.now.names.now name.now }
+        ensures { result ≡ name_passes (among self.now.names.now) name.now }
     {
         match name {
             MarkerValueExtra::Extra(name) => is_among(name, self.names),

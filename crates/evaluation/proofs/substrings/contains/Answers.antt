@@ -1,4 +1,4 @@
-use Rattle.std.proofs.Common.{◌≡◌, length, Decides, refl, rules, tests, of_calls}
+use Rattle.std.proofs.Common.{◌≡◌, length, Decides, rules, tests, of_calls}
 use Rattle.std.specs.Slice.Iter.{windows_size, windows_rest}
 use Rattle.evaluation.specs.Substrings.{Within}
 use Rattle.evaluation.proofs.Finding.{windows_say, empty_within, contains_test}
