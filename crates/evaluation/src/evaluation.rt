@@ -104,7 +104,11 @@ fn is_active<H: Host>(name: &MarkerValueExtra, host: &H) -> bool
 }
 
 // Where a view leads on a host: to an answer, or on to an id. The reports go to the reporter.
-fn lead<H: Host, R: Reporter>(kind: &MarkerTreeKind, host: &H, reporter: &mut R) -> ControlFlow<bool, NodeId>
+fn lead<H: Host, R: Reporter>(
+    kind: &MarkerTreeKind,
+    host: &H,
+    reporter: &mut R,
+) -> ControlFlow<bool, NodeId>
     ensures step { shown_step result ≡ the_lead (H.Host.means host.now) (shown_kind kind.now) }
     ensures reports { Tells R.Reporter.tally reporter.old reporter.new (told (H.Host.means host.now) (shown_kind kind.now)) }
 {
