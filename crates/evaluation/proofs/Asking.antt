@@ -5,7 +5,7 @@ use Rattle.values.specs.Lists.{any}
 use Rattle.diagrams.specs.Views.{seen}
 use Rattle.ranges.specs.declared.edges.Edge.{Edge}
 
-any_is : {A : Type 0} (p : A → Bool) (xs : List A) → any p xs ≡ list_any p xs
+pub any_is : {A : Type 0} (p : A → Bool) (xs : List A) → any p xs ≡ list_any p xs
 any_is p [] = refl
 any_is p (x ∷ xs) = ap (λ b. p x || b) (any_is p xs)
 

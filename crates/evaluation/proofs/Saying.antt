@@ -1,7 +1,7 @@
 -- What an id says is what the walk from it answers.
-use Rattle.std.proofs.Common.{◌≡◌, ℕ, zero, suc, ◌/◌, ◌<◌, Bool, true, false, cond, List, [], ◌∷◌, length, get_or, is_some, is_ok, Some, None, Ok, Err, Decides, Option, Result, sym, refl, ap, ◌∙◌, inl, inr, le_of_suc-le-suc, not-suc-le-zero, arith}
+use Rattle.std.proofs.Common.{◌≡◌, ℕ, zero, suc, ◌/◌, ◌<◌, Bool, true, false, cond, List, [], ◌∷◌, length, get_or, is_some, is_ok, Some, None, Ok, Err, Option, Result, sym, refl, ap, ◌∙◌, inl, inr, le_of_suc-le-suc, not-suc-le-zero, arith}
 use Rattle.std.specs.Option.{ok_or}
-use Rattle.std.proofs.lemmas.Bool.{cases_Bool, true≢false, leb-true, le-leb}
+use Rattle.std.proofs.lemmas.Bool.{cases_Bool, false_from_ne_true, true≢false, leb-true, le-leb}
 use Rattle.std.proofs.lemmas.Bool.Decides.{not_from_Decides}
 use Rattle.values.specs.Lists.{times}
 use Rattle.values.specs.Rows.{Row}
@@ -17,7 +17,7 @@ use Rattle.diagrams.specs.Admission.{first_refusal}
 use Rattle.diagrams.specs.Views.{View, always, never, version, string, in_literal, has_literal, extra, extra_text, known, seen_at, view, SoundView}
 use Rattle.diagrams.proofs.Viewing.{view_shows}
 use Rattle.hosts.specs.Hosts.{Meaning, text_of}
-use Rattle.evaluation.specs.Substrings.{contained, Within}
+use Rattle.evaluation.specs.Substrings.{contained}
 use Rattle.evaluation.specs.Walks.{chosen, goes, lead, Walk, walk}
 use Rattle.evaluation.specs.Evaluation.{Says, at_true, at_false, at_version, at_string, in_high, in_low, has_high, has_low, extra_high, extra_low, text_low, Evaluates}
 use Rattle.evaluation.proofs.Finding.{contained_says}
@@ -58,10 +58,6 @@ chosen_is row v (e ∷ es) one (suc j) lt h =
     ]
 
 -- ---- the walk says it
-
-off : (b : Bool) (P : Type 0) → Decides b P → (P → ⊥) → b ≡ false
-off true P d n = absurd (n (d.0 refl))
-off false P d n = refl
 
 abbrev Said : Meaning → Table → ℕ → Type 0
 Said m t id = (b : Bool) × (((walk m t id).answer ≡ Ok b) × Says m t id b)
@@ -123,9 +119,9 @@ module _ (m : Meaning) (t : Table) (a : is_some (first_refusal t) ≡ false) whe
       let sound = (view_shows t a id).sound (string k es) e in
       sym (answer_more m t a id (string k es) (get_or es j no_edge).child e (ap goes (chosen_is text_bytes v es (sound.one v) j lt h))) ∙ only s
   only {id} (in_high k l high low e w s) = sym (answer_more m t a id (in_literal k l high low) high e (ap (λ b. goes (cond b high low)) ((contained_says (text_of m k) (text_bytes l)).1 w))) ∙ only s
-  only {id} (in_low k l high low e n s) = sym (answer_more m t a id (in_literal k l high low) low e (ap (λ b. goes (cond b high low)) (off (contained (text_of m k) (text_bytes l)) (Within (text_of m k) (text_bytes l)) (contained_says (text_of m k) (text_bytes l)) n))) ∙ only s
+  only {id} (in_low k l high low e n s) = sym (answer_more m t a id (in_literal k l high low) low e (ap (λ b. goes (cond b high low)) (false_from_ne_true (contained (text_of m k) (text_bytes l)) (λ q. n ((contained_says (text_of m k) (text_bytes l)).0 q))))) ∙ only s
   only {id} (has_high k l high low e w s) = sym (answer_more m t a id (has_literal k l high low) high e (ap (λ b. goes (cond b high low)) ((contained_says (text_bytes l) (text_of m k)).1 w))) ∙ only s
-  only {id} (has_low k l high low e n s) = sym (answer_more m t a id (has_literal k l high low) low e (ap (λ b. goes (cond b high low)) (off (contained (text_bytes l) (text_of m k)) (Within (text_bytes l) (text_of m k)) (contained_says (text_bytes l) (text_of m k)) n))) ∙ only s
+  only {id} (has_low k l high low e n s) = sym (answer_more m t a id (has_literal k l high low) low e (ap (λ b. goes (cond b high low)) (false_from_ne_true (contained (text_bytes l) (text_of m k)) (λ q. n ((contained_says (text_bytes l) (text_of m k)).0 q))))) ∙ only s
   only {id} (extra_high l high low e q s) = sym (answer_more m t a id (extra l high low) high e (ap (λ b. goes (cond b high low)) q)) ∙ only s
   only {id} (extra_low l high low e q s) = sym (answer_more m t a id (extra l high low) low e (ap (λ b. goes (cond b high low)) q)) ∙ only s
   only {id} (text_low l high low e s) = sym (answer_more m t a id (extra_text l high low) low e refl) ∙ only s

@@ -80,21 +80,15 @@ pick_below : (b : Bool) (id high low : ℕ) → high < id → low < id → cond 
 pick_below true id high low h l = h
 pick_below false id high low h l = l
 
-goes_same : {a b : ℕ} → goes a ≡ goes b → a ≡ b
-goes_same e = cc
-
-ends_goes : {b : Bool} {c : ℕ} → ends b ≡ goes c → ⊥
-ends_goes e = let z : ◌≡◌ {A = ℕ} 0 1 = cc in omega arith
-
 pub lead_below : (m : Meaning) (id : ℕ) (v : View) → SoundView id v → (c : ℕ) → lead m v ≡ goes c → c < id
-lead_below m id always s c e = absurd (ends_goes e)
-lead_below m id never s c e = absurd (ends_goes e)
-lead_below m id (version k es) s c e = subst (λ (x : ℕ). x < id) (goes_same e) (chosen_below release_row (release_row (m.release k)) id es s.falls (s.one (release_row (m.release k))))
-lead_below m id (string k es) s c e = subst (λ (x : ℕ). x < id) (goes_same e) (chosen_below text_bytes (text_of m k) id es s.falls (s.one (text_of m k)))
-lead_below m id (in_literal k t high low) s c e = subst (λ (x : ℕ). x < id) (goes_same e) (pick_below (contained (text_of m k) (text_bytes t)) id high low s.0 s.1)
-lead_below m id (has_literal k t high low) s c e = subst (λ (x : ℕ). x < id) (goes_same e) (pick_below (contained (text_bytes t) (text_of m k)) id high low s.0 s.1)
-lead_below m id (extra t high low) s c e = subst (λ (x : ℕ). x < id) (goes_same e) (pick_below (m.active (text_bytes t)) id high low s.0 s.1)
-lead_below m id (extra_text t high low) s c e = subst (λ (x : ℕ). x < id) (goes_same e) s.1
+lead_below m id always s c e = cc
+lead_below m id never s c e = cc
+lead_below m id (version k es) s c e = subst (λ (x : ℕ). x < id) (cc) (chosen_below release_row (release_row (m.release k)) id es s.falls (s.one (release_row (m.release k))))
+lead_below m id (string k es) s c e = subst (λ (x : ℕ). x < id) (cc) (chosen_below text_bytes (text_of m k) id es s.falls (s.one (text_of m k)))
+lead_below m id (in_literal k t high low) s c e = subst (λ (x : ℕ). x < id) (cc) (pick_below (contained (text_of m k) (text_bytes t)) id high low s.0 s.1)
+lead_below m id (has_literal k t high low) s c e = subst (λ (x : ℕ). x < id) (cc) (pick_below (contained (text_bytes t) (text_of m k)) id high low s.0 s.1)
+lead_below m id (extra t high low) s c e = subst (λ (x : ℕ). x < id) (cc) (pick_below (m.active (text_bytes t)) id high low s.0 s.1)
+lead_below m id (extra_text t high low) s c e = subst (λ (x : ℕ). x < id) (cc) s.1
 
 -- ---- the walk
 

@@ -128,6 +128,7 @@ fn evaluate_possible(
 
 // Whether a root may say yes with the extras of the names active: refusal 14, then 16. Whatever else a host says counts
 // as possible.
+#[tactic(auto, using(crate::proofs::Possibly::extras_law))]
 pub fn evaluate_extras(diagram: &Diagram, root: NodeId, names: &[Text]) -> Result<bool, Fault>
     ensures answer { result ≡ extras_answer names.now None (table_of diagram.now) root.0 }
     ensures law { ExtrasLaw (table_of diagram.now) }
@@ -136,6 +137,7 @@ pub fn evaluate_extras(diagram: &Diagram, root: NodeId, names: &[Text]) -> Resul
 }
 
 // The same, where `python_version` is one of the releases.
+#[tactic(auto, using(crate::proofs::Possibly::extras_law))]
 pub fn evaluate_extras_and_python_version(
     diagram: &Diagram,
     root: NodeId,
