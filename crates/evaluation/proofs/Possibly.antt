@@ -216,3 +216,6 @@ root_names names rs t id f k e = by (names_refusal names) e ∙ root_answer name
     by : (o : Option Fault) → Err f ≡ answer o → Err f ≡ unless_refused o (extras names rs t id)
     by None q = absurd (grind (arith, q))
     by (Some g) q = ap Err (let z : f ≡ g = cc in z)
+
+-- what is known of a root
+pub ruleset roots = (root_low, root_known, root_names)

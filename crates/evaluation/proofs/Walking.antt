@@ -66,6 +66,9 @@ told_turn key v id es i d b t u lt e same =
     ∙ reported-append t (edge_reports key (get_or es i d)) (cond b [] (examined key v (map (seen id) (drop (i + 1) es))))
     ∙ sym (ap (reported t) (examined_turn key v id es i d b lt e))
 
+-- the steps of a search over edges
+pub ruleset edge_steps = (chosen_turn, chosen_end, told_turn, examined_end)
+
 -- ---- where a view leads lies below its id
 
 chosen_below : {T : Type 0} (row : T → Row) (v : Row) (id : ℕ) (es : List (Edge T)) → ((j : ℕ) → j < length es → (get_or es j no_edge).child < id) → times (λ e. lies row e v) es ≡ 1 → chosen row v es < id
@@ -106,11 +109,15 @@ module _ (m : Meaning) (t : Table) (a : is_some (first_refusal t) ≡ false) whe
   walk_fuel (suc f) zero id lf lg = absurd (not-suc-le-zero lg)
   walk_fuel (suc f) (suc g) id lf lg = view_fuel f g id (omega arith) (omega arith) (λ c l h. walk_fuel f g c l h) (view t id) refl
 
+  -- where the view of an id leads lies below it
+  pub leads_down : (id : ℕ) (v : View) (c : ℕ) → view t id ≡ Ok v → lead m v ≡ goes c → c < id
+  leads_down id v c e w = lead_below m id v ((view_shows t a id).sound v e) c w
+
   -- the walk from an id whose view leads on
   pub walk_goes : (id : ℕ) (v : View) (c : ℕ) → view t id ≡ Ok v → lead m v ≡ goes c → walk m t id ≡ after (told m v) (walk m t c)
   unfolding walk
   walk_goes id v c e w =
-      let lt : c < id = lead_below m id v ((view_shows t a id).sound v e) c w in
+      let lt = leads_down id v c e w in
       ap (on_view m (walk_by id m t)) e ∙ ap (λ x. after (told m v) (on_where (walk_by id m t) x)) w ∙ ap (after (told m v)) (walk_fuel id (suc c) c lt (omega arith))
 
   -- the walk that ends here

@@ -73,6 +73,7 @@ fn choose_version<H: Host>(tree: &VersionMarkerTree, host: &H) -> NodeId
 
 // Where the range of a text node that contains the host's text leads. The edges are examined from the first to that
 // one, and each reports.
+#[tactic(auto, using(crate::proofs::Walking::edge_steps))]
 fn choose_string<H: Host, R: Reporter>(
     tree: &StringMarkerTree,
     host: &H,
@@ -133,6 +134,7 @@ fn lead<H: Host, R: Reporter>(
 }
 
 // Whether a root holds on a host, or refusal 14. The reports go to the reporter.
+#[tactic(auto, using(crate::proofs::Saying::walk_steps))]
 pub fn evaluate<H: Host, R: Reporter>(
     diagram: &Diagram,
     root: NodeId,

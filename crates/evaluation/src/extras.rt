@@ -105,6 +105,7 @@ impl Asked<'_> {
 }
 
 // Whether a root may say yes. Each id up to it is settled once, from the lowest, since children fall.
+#[tactic(auto, using(crate::proofs::Possibly::roots))]
 fn evaluate_possible(
     diagram: &Diagram,
     root: NodeId,
