@@ -21,7 +21,7 @@ use Rattle.evaluation.specs.Substrings.{contained}
 use Rattle.evaluation.specs.Walks.{chosen, goes, lead, Walk, walk}
 use Rattle.evaluation.specs.Evaluation.{Says, at_true, at_false, at_version, at_string, in_high, in_low, has_high, has_low, extra_high, extra_low, text_low, Evaluates}
 use Rattle.evaluation.proofs.Finding.{contained_says}
-use Rattle.evaluation.proofs.Walking.{answer_more, reports_more, answer_end, reports_end, leads_down, walk_lacks}
+use Rattle.evaluation.proofs.Walking.{answer_more, reports_more, answer_end, reports_end, walk_lacks}
 use Rattle.evaluation.proofs.Negating.{walk_opposite}
 
 -- ---- the edge that contains a value
@@ -144,4 +144,4 @@ evaluates t a = record {
 }
 
 -- the steps of a walk, and its law
-pub ruleset walk_steps = (answer_more, reports_more, answer_end, reports_end, leads_down, walk_lacks, evaluates)
+pub ruleset walk_steps = (answer_more, reports_more, reports_end, walk_lacks, evaluates)
