@@ -66,6 +66,11 @@ module _ (m : Meaning) (t : Table) (a : is_some (first_refusal t) ≡ false) whe
   further : (id : ℕ) (v : View) (c : ℕ) → view t id ≡ Ok v → lead m v ≡ goes c → ((b : Bool) → Says m t c b → Says m t id b) → Said m t c → Said m t id
   further id v c e l step s = (s.0, (sym (answer_more m t a id v c e l) ∙ s.1.0, step s.0 s.1.1))
 
+  -- a view with two children
+  picked : (id : ℕ) (v : View) (high low : ℕ) (c : Bool) → view t id ≡ Ok v → lead m v ≡ goes (cond c high low) → (c ≡ true → (b : Bool) → Says m t high b → Says m t id b) → (c ≡ false → (b : Bool) → Says m t low b → Says m t id b) → Said m t high → Said m t low → Said m t id
+  picked id v high low true e l up down h w = further id v high e l (up refl) h
+  picked id v high low false e l up down h w = further id v low e l (down refl) w
+
   by_view : (id : ℕ) → ((c : ℕ) → c < id → Said m t c) → (v : View) → view t id ≡ Ok v → SoundView id v → Said m t id
   by_view id ih always e s = (true, (sym (answer_end m t a id always true e refl), at_true e))
   by_view id ih never e s = (false, (sym (answer_end m t a id never false e refl), at_false e))
@@ -76,20 +81,13 @@ module _ (m : Meaning) (t : Table) (a : is_some (first_refusal t) ≡ false) whe
       let w = fits text_bytes (text_of m k) es (s.one (text_of m k)) in
       further id (string k es) (get_or es w.place no_edge).child e (ap goes w.leads) (λ b q. at_string k es w.place e w.within w.here q) (ih (get_or es w.place no_edge).child (s.falls w.place w.within))
   by_view id ih (in_literal k l high low) e s =
-      elim (cases_Bool (contained (text_of m k) (text_bytes l))) [
-        | inl q ↦ further id (in_literal k l high low) high e (ap (λ b. goes (cond b high low)) q) (λ b x. in_high k l high low e ((contained_says (text_of m k) (text_bytes l)).0 q) x) (ih high s.0)
-        | inr q ↦ further id (in_literal k l high low) low e (ap (λ b. goes (cond b high low)) q) (λ b x. in_low k l high low e (not_from_Decides (contained (text_of m k) (text_bytes l)) (contained_says (text_of m k) (text_bytes l)) q) x) (ih low s.1)
-      ]
+      let d = contained_says (text_of m k) (text_bytes l) in
+      picked id (in_literal k l high low) high low (contained (text_of m k) (text_bytes l)) e refl (λ q b x. in_high k l high low e (d.0 q) x) (λ q b x. in_low k l high low e (not_from_Decides (contained (text_of m k) (text_bytes l)) d q) x) (ih high s.0) (ih low s.1)
   by_view id ih (has_literal k l high low) e s =
-      elim (cases_Bool (contained (text_bytes l) (text_of m k))) [
-        | inl q ↦ further id (has_literal k l high low) high e (ap (λ b. goes (cond b high low)) q) (λ b x. has_high k l high low e ((contained_says (text_bytes l) (text_of m k)).0 q) x) (ih high s.0)
-        | inr q ↦ further id (has_literal k l high low) low e (ap (λ b. goes (cond b high low)) q) (λ b x. has_low k l high low e (not_from_Decides (contained (text_bytes l) (text_of m k)) (contained_says (text_bytes l) (text_of m k)) q) x) (ih low s.1)
-      ]
+      let d = contained_says (text_bytes l) (text_of m k) in
+      picked id (has_literal k l high low) high low (contained (text_bytes l) (text_of m k)) e refl (λ q b x. has_high k l high low e (d.0 q) x) (λ q b x. has_low k l high low e (not_from_Decides (contained (text_bytes l) (text_of m k)) d q) x) (ih high s.0) (ih low s.1)
   by_view id ih (extra l high low) e s =
-      elim (cases_Bool (m.active (text_bytes l))) [
-        | inl q ↦ further id (extra l high low) high e (ap (λ b. goes (cond b high low)) q) (λ b x. extra_high l high low e q x) (ih high s.0)
-        | inr q ↦ further id (extra l high low) low e (ap (λ b. goes (cond b high low)) q) (λ b x. extra_low l high low e q x) (ih low s.1)
-      ]
+      picked id (extra l high low) high low (m.active (text_bytes l)) e refl (λ q b x. extra_high l high low e q x) (λ q b x. extra_low l high low e q x) (ih high s.0) (ih low s.1)
   by_view id ih (extra_text l high low) e s = further id (extra_text l high low) low e refl (λ b x. text_low l high low e x) (ih low s.1)
 
   by_result : (id : ℕ) → ((c : ℕ) → c < id → Said m t c) → (r : Result View Fault) → view t id ≡ r → is_ok r ≡ true → Said m t id
