@@ -1,16 +1,21 @@
--- Whether some element of a list passes, one after another.
-use Rattle.std.proofs.Common.{◌≡◌, ℕ, ◌+◌, ◌<◌, ◌≤◌, Bool, false, ◌||◌, List, map, length, get_or, drop, sym, ap, ◌∙◌}
-use Rattle.std.proofs.lemmas.List.{at_drop_more, at_drop_all}
+-- Whether some element of a list passes, as the library asks it.
+use Rattle.std.proofs.Common.{◌≡◌, Bool, ◌||◌, List, [], ◌∷◌, map, sym, refl, ap, ◌∙◌}
+use Rattle.std.specs.List.{list_any}
 use Rattle.values.specs.Lists.{any}
+use Rattle.diagrams.specs.Views.{seen}
+use Rattle.ranges.specs.declared.edges.Edge.{Edge}
 
-pub any_turn : {A B : Type 0} (f : A → B) (p : B → Bool) (xs : List A) (i : ℕ) (d : A) (b : Bool) → i < length xs → b ≡ p (f (get_or xs i d)) → any p (map f (drop i xs)) ≡ (b || any p (map f (drop (i + 1) xs)))
-any_turn f p xs i d b lt e = at_drop_more (λ ys. any p (map f ys)) xs i d lt ∙ ap (λ q. q || any p (map f (drop (i + 1) xs))) (sym e)
+pub any_is : {A : Type 0} (p : A → Bool) (xs : List A) → any p xs ≡ list_any p xs
+any_is p [] = refl
+any_is p (x ∷ xs) = ap (λ b. p x || b) (any_is p xs)
 
-pub any_end : {A B : Type 0} (f : A → B) (p : B → Bool) (xs : List A) (i : ℕ) → length xs ≤ i → any p (map f (drop i xs)) ≡ false
-any_end f p xs i le = at_drop_all (λ ys. any p (map f ys)) xs i le
+mapped : {A B : Type 0} (f : A → B) (p : B → Bool) (xs : List A) → any p (map f xs) ≡ list_any (λ x. p (f x)) xs
+mapped f p [] = refl
+mapped f p (x ∷ xs) = ap (λ b. p (f x) || b) (mapped f p xs)
 
-pub any_next : {A : Type 0} (p : A → Bool) (xs : List A) (i : ℕ) (d : A) (b : Bool) → i < length xs → b ≡ p (get_or xs i d) → any p (drop i xs) ≡ (b || any p (drop (i + 1) xs))
-any_next p xs i d b lt e = at_drop_more (any p) xs i d lt ∙ ap (λ q. q || any p (drop (i + 1) xs)) (sym e)
+pub any_from : {A : Type 0} (p : A → Bool) (xs : List A) (r : Bool) → r ≡ list_any p xs → r ≡ any p xs
+any_from p xs r e = e ∙ sym (any_is p xs)
 
-pub any_last : {A : Type 0} (p : A → Bool) (xs : List A) (i : ℕ) → length xs ≤ i → any p (drop i xs) ≡ false
-any_last p xs i le = at_drop_all (any p) xs i le
+-- the same of edges, as an id shows them
+pub any_seen : {T : Type 0} (id : _) (p : Edge T → Bool) (es : List (Edge T)) (r : Bool) → r ≡ list_any (λ e. p (seen id e)) es → r ≡ any p (map (seen id) es)
+any_seen id p es r e = e ∙ sym (mapped (seen id) p es)

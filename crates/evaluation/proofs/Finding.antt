@@ -1,10 +1,15 @@
 -- The search for a part in a text.
-use Rattle.std.proofs.Common.{◌≡◌, ℕ, suc, ◌+◌, ◌-◌, ◌<◌, Bool, true, false, ◌||◌, eqb, List, [], ◌∷◌, ◌++◌, length, take, drop, Decides, sym, refl, ap, ◌∙◌, inl, inr, arith}
-use Rattle.std.specs.Cmp.Lexicographic.{pointwise}
-use Rattle.std.proofs.lemmas.Slice.Eq.{starts_is}
-use Rattle.std.proofs.lemmas.List.{at_drop_more, take_rest}
-use Rattle.std.proofs.lemmas.Bool.{and_parts, and_from, or_cases, or_left, or_right, eqb-true, eq-eqb, ne_eqb, true≢false}
-use Rattle.std.proofs.lemmas.Bool.Decides.{same_from_decides, Decides-eqb}
+use Rattle.std.proofs.Common.{◌≡◌, ℕ, ◌+◌, ◌<◌, ◌≤◌, Bool, true, false, eqb, List, [], ◌∷◌, ◌++◌, length, length-append, get_or, take, drop, Decides, Bor, Option, Some, None, is_some, sym, refl, ap, ◌∙◌, inl, inr, arith}
+use Rattle.std.specs.Bool.{IsTrue, MatchBool}
+use Rattle.std.specs.Fn.{Called, Mut}
+use Rattle.std.specs.Iterator.Runs.{Run, IsWindowsRun, AnyItemGives, AllItemsGive, CallKeepsClosure}
+use Rattle.std.specs.List.{IsSubsliceAt}
+use Rattle.std.proofs.Math.Seq.{take-append_seam, drop-append_seam}
+use Rattle.std.proofs.lemmas.Option.{none-some}
+use Rattle.std.specs.Option.{option_map, IfSome, IsSomeAnd}
+use Rattle.std.proofs.lemmas.List.{take-append-drop}
+use Rattle.std.proofs.lemmas.Bool.{and_parts, and_from, or_cases, or_left, or_right, eqb-true, eq-eqb, true≢false}
+use Rattle.std.proofs.lemmas.Bool.Decides.{same_from_decides}
 use Rattle.evaluation.specs.Substrings.{begins, contained, Within}
 
 -- what stands behind a part with which a text begins
@@ -31,12 +36,6 @@ begins_to (p ∷ part) (b ∷ text) rest e =
 begins_says : (part text : List ℕ) → Decides (begins part text) (Front part text)
 begins_says part text = (begins_from part text, λ w. begins_to part text w.rest w.is)
 
--- what `starts_with` answers
-pub starts : (part text : List ℕ) (r : Bool) → r ≡ pointwise eqb part (take (length part) text) → r ≡ begins part text
-starts part text r m =
-    let s = starts_is Decides-eqb text part r m in
-    same_from_decides r (begins part text) (λ e. record { rest = drop (length part) text; is = s.0 e }, λ w. s.1 w.rest w.is) (begins_says part text)
-
 contained_from : (part text : List ℕ) → contained part text ≡ true → Within part text
 contained_from part [] e = let w = begins_from part [] e in record { before = []; behind = w.rest; is = w.is }
 contained_from part (b ∷ text) e =
@@ -56,16 +55,44 @@ contained_to part (b ∷ text) (x ∷ before) behind e =
 pub contained_says : (part text : List ℕ) → Decides (contained part text) (Within part text)
 contained_says part text = (contained_from part text, λ w. contained_to part text w.before w.behind w.is)
 
--- one turn, at a place where the part begins or not
-pub turn : (part text : List ℕ) (i : ℕ) (r : Bool) → i < length text → r ≡ begins part (take (length text - i) (drop i text)) → contained part (drop i text) ≡ (r || contained part (drop (i + 1) text))
-turn part text i r lt e =
-    at_drop_more (contained part) text i 0 lt
-    ∙ ap (λ b. b || contained part (drop (i + 1) text)) (sym (at_drop_more (begins part) text i 0 lt) ∙ ap (begins part) (sym (take_rest text i)) ∙ sym e)
+-- what the windows of a text answer, each of them whether it is the part
+module _ {S F : Type 0} {steps : S → Option (Bor (List ℕ)) → S → Type 0} {g : Mut F (Bor (List ℕ) × Unit {0}) Bool} (part text : List ℕ) (p : Run steps) (run : IsWindowsRun p (length part) text) (f : F) (same : (x : Bor (List ℕ)) (b : Bool) → Called g f (x, tt) b f → Decides b (x.now ≡ part)) where
+  some_window : (k : ℕ) (o : Option (Bor (List ℕ))) → IfSome o (λ x. (length x.now ≡ length part) × (k + length part ≤ length text) × IsSubsliceAt (length part) text k x.now) → IsSomeAnd o (λ x. Called g f (x, tt) true f) → Within part text
+  some_window k None w a = absurd a
+  some_window k (Some x) w a = record {
+    before = take k text;
+    behind = drop (length part) (drop k text);
+    is = sym (take-append-drop k text) ∙ ap (λ (xs : List ℕ). take k text ++ xs) (sym (take-append-drop (length part) (drop k text))) ∙ ap (λ (xs : List ℕ). take k text ++ (xs ++ drop (length part) (drop k text))) (sym w.2.0 ∙ (same x true a).0 refl);
+  }
 
--- at the end only the empty part is found
-pub ends : (part : List ℕ) (r : Bool) → r ≡ eqb (length part) 0 → r ≡ begins part []
-ends [] r e = e
-ends (p ∷ part) r e = e ∙ no_zero (length part)
-  where
-    no_zero : (n : ℕ) → eqb (suc n) 0 ≡ false
-    no_zero n = ne_eqb (suc n) 0 (λ e. omega arith)
+  no_window : (k : ℕ) (o : Option (Bor (List ℕ))) → IfSome o (λ x. (length x.now ≡ length part) × (k + length part ≤ length text) × IsSubsliceAt (length part) text k x.now) → IfSome o (λ x. Called g f (x, tt) false f) → is_some o ≡ true → take (length part) (drop k text) ≡ part → ⊥
+  no_window k None w a e here = true≢false (sym e)
+  no_window k (Some x) w a e here = true≢false (sym ((same x false a).1 (w.2.0 ∙ here)))
+
+  pub windows_say : (r : Bool) → CallKeepsClosure g f → MatchBool r (AnyItemGives p g f true) (IsTrue p.whole × AllItemsGive p g f false) → Decides r (Within part text)
+  windows_say true keeps m = let a = m keeps in (λ e. some_window a.0 (p.at a.0) (run.2 a.0) a.2, λ w. refl)
+  windows_say false keeps m = (λ e. absurd (true≢false (sym e)), λ w. absurd (no_window (length w.before) (p.at (length w.before)) (run.2 (length w.before)) (m.1 keeps (length w.before)) (shown (p.at (length w.before)) (run.3 (length w.before) 0 (inside w))) (here w)))
+    where
+      inside : (w : Within part text) → length w.before < p.len
+      inside w =
+          let all : length text ≡ length w.before + (length part + length w.behind) = ap length w.is ∙ length-append w.before (part ++ w.behind) ∙ ap (λ k. length w.before + k) (length-append part w.behind) in
+          omega (arith, run.1 m.0)
+
+      here : (w : Within part text) → take (length part) (drop (length w.before) text) ≡ part
+      here w =
+          ap (λ (xs : List ℕ). take (length part) (drop (length w.before) xs)) w.is
+          ∙ ap (take (length part)) (drop-append_seam w.before (part ++ w.behind))
+          ∙ take-append_seam part w.behind
+
+      shown : {y : ℕ} (o : Option (Bor (List ℕ))) → option_map (λ x. get_or x.now 0 0) o ≡ Some y → is_some o ≡ true
+      shown None e = absurd (none-some _ e)
+      shown (Some x) e = refl
+
+-- the empty part stands everywhere
+pub empty_within : (part text : List ℕ) → length part ≡ 0 → Within part text
+empty_within [] text e = record { before = []; behind = text; is = refl }
+empty_within (p ∷ part) text e = absurd (omega arith)
+
+-- the test says it too
+pub contains_test : (part text : List ℕ) (r : Bool) → Decides r (Within part text) → r ≡ contained part text
+contains_test part text r law = same_from_decides r (contained part text) law (contained_says part text)

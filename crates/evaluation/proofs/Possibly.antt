@@ -1,12 +1,15 @@
 -- What an id may say, one level at a time, and the law of the two evaluations of extras.
-use Rattle.std.proofs.Common.{◌≡◌, ℕ, zero, suc, ◌/◌, ◌<◌, ◌≤◌, Bool, true, false, cond, ◌&&◌, ◌||◌, List, [], ◌∷◌, length, get_or, is_some, is_ok, Some, None, Ok, Err, Option, Result, Ordering, Less, Equal, Greater, sym, refl, ap, ◌∙◌, inl, inr, le_of_suc-le-suc, not-suc-le-zero, arith}
+use Rattle.std.proofs.Common.{◌≡◌, ◌≢◌, ℕ, zero, suc, ◌+◌, ◌/◌, ◌<◌, ◌≤◌, Bool, true, false, cond, ◌&&◌, ◌||◌, List, [], ◌∷◌, length, get_or, set, is_some, is_ok, Some, None, Ok, Err, Option, Result, sym, refl, ap, ◌∙◌, inl, inr, not-suc-le-zero, arith, below_more}
 use Rattle.std.specs.Ordering.{is_eq}
+use Rattle.std.specs.Cmp.{Equal-is}
 use Rattle.std.proofs.lemmas.Bool.{cases_Bool, and_parts, and_from, or_cases, or_left, or_right, leb-true, true≢false}
+use Rattle.std.proofs.lemmas.List.{get_or-set_same, get_or-set_other}
 use Rattle.values.specs.Lists.{any}
 use Rattle.values.specs.Rows.{by_row}
 use Rattle.values.specs.Releases.{release_row}
 use Rattle.values.specs.Texts.{text_bytes}
 use Rattle.values.specs.declared.faults.Fault.{Fault}
+use Rattle.values.specs.declared.faults.Fault.TheVariants.{UnknownId}
 use Rattle.values.specs.declared.keys.MarkerValueVersion.{MarkerValueVersion}
 use Rattle.values.specs.declared.keys.MarkerValueVersion.TheVariants.{ImplementationVersion, PythonFullVersion, PythonVersion}
 use Rattle.values.specs.declared.releases.Release.{Release}
@@ -25,6 +28,8 @@ use Rattle.evaluation.specs.Walks.{walk}
 use Rattle.evaluation.specs.Evaluation.{Says, Evaluates}
 use Rattle.evaluation.specs.Evaluation as says
 use Rattle.evaluation.specs.Extras.{counts, may_say, on_result, extras_by, extras, Possible, at_true, at_version, at_string, in_high, in_low, has_high, has_low, extra_high, extra_low, text_low, includes, extras_answer, ExtrasLaw, unless_refused}
+use Rattle.std.proofs.lemmas.List.Folds.{list_any_at}
+use Rattle.evaluation.proofs.Asking.{any_is}
 use Rattle.evaluation.proofs.Saying.{evaluates, lacks_view}
 use Rattle.diagrams.proofs.Lawful.{sound}
 
@@ -64,6 +69,13 @@ module _ (names : List Text) (rs : Option (List Release)) where
     unfolding extras
     extras_from id s h = result_same id s (extras_by id names rs t) (λ c lt. h c lt ∙ extras_fuel (suc c) id c (omega arith) lt) (view t id) refl
 
+    -- one more id is settled
+    pub settled_more : (id : ℕ) (table : List Bool) (b : Bool) → id < length table → b ≡ on_result names rs (λ c. get_or table c false) (view t id) → ((c : ℕ) → c < id → get_or table c false ≡ extras names rs t c) → (c : ℕ) → c < id + 1 → get_or (set table id b) c false ≡ extras names rs t c
+    settled_more id table b lt e h =
+        below_more (λ c. get_or (set table id b) c false ≡ extras names rs t c) id
+        (λ c l. let ne : c ≢ id = omega arith in get_or-set_other table id c b false ne ∙ h c l)
+        (get_or-set_same table id b false lt ∙ e ∙ extras_from id (λ c. get_or table c false) h)
+
     extras_at : (id : ℕ) (v : View) → view t id ≡ Ok v → extras names rs t id ≡ may_say names rs (extras names rs t) v
     extras_at id v e = sym (extras_from id (extras names rs t) (λ c lt. refl)) ∙ ap (on_result names rs (extras names rs t)) e
 
@@ -81,9 +93,7 @@ some_edge d p (x ∷ xs) e =
     ]
 
 edge_some : {A : Type 0} (d : A) (p : A → Bool) (xs : List A) (j : ℕ) → j < length xs → p (get_or xs j d) ≡ true → any p xs ≡ true
-edge_some d p [] j lt h = absurd (not-suc-le-zero lt)
-edge_some d p (x ∷ xs) zero lt h = or_left (p x) (any p xs) h
-edge_some d p (x ∷ xs) (suc j) lt h = or_right (p x) (any p xs) (edge_some d p xs j (le_of_suc-le-suc lt) h)
+edge_some d p xs j lt h = any_is p xs ∙ list_any_at p xs j d lt h
 
 module _ (names : List Text) (rs : Option (List Release)) (t : Table) (a : is_some (first_refusal t) ≡ false) where
   abbrev X : ℕ → Bool
@@ -130,11 +140,6 @@ module _ (names : List Text) (rs : Option (List Release)) (t : Table) (a : is_so
 
 -- ---- yes on a host is possible
 
-equal_is : (o : Ordering) → is_eq o ≡ true → o ≡ Equal
-equal_is Less e = absurd (true≢false (sym e))
-equal_is Equal e = refl
-equal_is Greater e = absurd (true≢false (sym e))
-
 -- the edge that contains the host's release counts
 counts_host : (m : Meaning) (rs : Option (List Release)) → includes m rs ≡ true → (k : MarkerValueVersion) (e : Edge Release) → lies release_row e (release_row (m.release k)) ≡ true → counts rs k e ≡ true
 counts_host m None inc k e h = refl
@@ -146,7 +151,7 @@ counts_host m (Some rs) inc PythonVersion e h = found rs inc
     found [] q = absurd (true≢false (sym q))
     found (r ∷ qs) q =
         elim (or_cases (is_eq (by_row (release_row r) (release_row (m.release PythonVersion)))) (any (λ x. is_eq (by_row (release_row x) (release_row (m.release PythonVersion)))) qs) q) [
-          | inl w ↦ or_left (lies release_row e (release_row r)) (any (λ x. lies release_row e (release_row x)) qs) (ap (lies release_row e) (row_same (release_row r) (release_row (m.release PythonVersion)) (equal_is (by_row (release_row r) (release_row (m.release PythonVersion))) w)) ∙ h)
+          | inl w ↦ or_left (lies release_row e (release_row r)) (any (λ x. lies release_row e (release_row x)) qs) (ap (lies release_row e) (row_same (release_row r) (release_row (m.release PythonVersion)) ((Equal-is (by_row (release_row r) (release_row (m.release PythonVersion)))).0 w)) ∙ h)
           | inr w ↦ or_right (lies release_row e (release_row r)) (any (λ x. lies release_row e (release_row x)) qs) (found qs w)
         ]
 
@@ -167,15 +172,9 @@ module _ (m : Meaning) (names : List Text) (rs : Option (List Release)) (t : Tab
   yes_possible : is_some (first_refusal t) ≡ false → (id : ℕ) → (walk m t id).answer ≡ Ok true → Possible names rs t id
   yes_possible a id y =
       elim (cases_Bool (known t id)) [
-        | inl k ↦ let w = (evaluates t a).says m id k in said_possible w.1.1 (same (sym w.1.0 ∙ y))
-        | inr k ↦ absurd (never (sym ((evaluates t a).lacks m id k).0 ∙ y))
+        | inl k ↦ let w = (evaluates t a).says m id k in said_possible w.1.1 (let e : ◌≡◌ {A = Result Bool Fault} (Ok w.0) (Ok true) = sym w.1.0 ∙ y in cc)
+        | inr k ↦ let e : ◌≡◌ {A = Result Bool Fault} (Err UnknownId) (Ok true) = sym ((evaluates t a).lacks m id k).0 ∙ y in cc
       ]
-    where
-      same : {x y : Bool} → ◌≡◌ {A = Result Bool Fault} (Ok x) (Ok y) → x ≡ y
-      same e = cc
-
-      never : {f : Fault} {x : Bool} → ◌≡◌ {A = Result Bool Fault} (Err f) (Ok x) → ⊥
-      never e = let z : ◌≡◌ {A = ℕ} 0 1 = cc in omega arith
 
 pub extras_law : (t : Table) → is_some (first_refusal t) ≡ false → ExtrasLaw t
 extras_law t a = record {
@@ -217,3 +216,6 @@ root_names names rs t id f k e = by (names_refusal names) e ∙ root_answer name
     by : (o : Option Fault) → Err f ≡ answer o → Err f ≡ unless_refused o (extras names rs t id)
     by None q = absurd (grind (arith, q))
     by (Some g) q = ap Err (let z : f ≡ g = cc in z)
+
+-- what is known of a root
+pub ruleset roots = (root_low, root_known, root_names)

@@ -1,7 +1,7 @@
 -- What an id says is what the walk from it answers.
-use Rattle.std.proofs.Common.{◌≡◌, ℕ, zero, suc, ◌/◌, ◌<◌, Bool, true, false, cond, List, [], ◌∷◌, length, get_or, is_some, is_ok, Some, None, Ok, Err, Decides, Option, Result, sym, refl, ap, ◌∙◌, inl, inr, le_of_suc-le-suc, not-suc-le-zero, arith}
+use Rattle.std.proofs.Common.{◌≡◌, ℕ, zero, suc, ◌/◌, ◌<◌, Bool, true, false, cond, List, [], ◌∷◌, length, get_or, is_some, is_ok, Some, None, Ok, Err, Option, Result, sym, refl, ap, ◌∙◌, inl, inr, le_of_suc-le-suc, not-suc-le-zero, arith}
 use Rattle.std.specs.Option.{ok_or}
-use Rattle.std.proofs.lemmas.Bool.{cases_Bool, true≢false, leb-true, le-leb}
+use Rattle.std.proofs.lemmas.Bool.{cases_Bool, false_from_ne_true, true≢false, leb-true, le-leb}
 use Rattle.std.proofs.lemmas.Bool.Decides.{not_from_Decides}
 use Rattle.values.specs.Lists.{times}
 use Rattle.values.specs.Rows.{Row}
@@ -17,11 +17,11 @@ use Rattle.diagrams.specs.Admission.{first_refusal}
 use Rattle.diagrams.specs.Views.{View, always, never, version, string, in_literal, has_literal, extra, extra_text, known, seen_at, view, SoundView}
 use Rattle.diagrams.proofs.Viewing.{view_shows}
 use Rattle.hosts.specs.Hosts.{Meaning, text_of}
-use Rattle.evaluation.specs.Substrings.{contained, Within}
+use Rattle.evaluation.specs.Substrings.{contained}
 use Rattle.evaluation.specs.Walks.{chosen, goes, lead, Walk, walk}
 use Rattle.evaluation.specs.Evaluation.{Says, at_true, at_false, at_version, at_string, in_high, in_low, has_high, has_low, extra_high, extra_low, text_low, Evaluates}
 use Rattle.evaluation.proofs.Finding.{contained_says}
-use Rattle.evaluation.proofs.Walking.{answer_more, answer_end, walk_lacks}
+use Rattle.evaluation.proofs.Walking.{answer_more, reports_more, answer_end, reports_end, walk_lacks}
 use Rattle.evaluation.proofs.Negating.{walk_opposite}
 
 -- ---- the edge that contains a value
@@ -59,16 +59,17 @@ chosen_is row v (e ∷ es) one (suc j) lt h =
 
 -- ---- the walk says it
 
-off : (b : Bool) (P : Type 0) → Decides b P → (P → ⊥) → b ≡ false
-off true P d n = absurd (n (d.0 refl))
-off false P d n = refl
-
 abbrev Said : Meaning → Table → ℕ → Type 0
 Said m t id = (b : Bool) × (((walk m t id).answer ≡ Ok b) × Says m t id b)
 
 module _ (m : Meaning) (t : Table) (a : is_some (first_refusal t) ≡ false) where
   further : (id : ℕ) (v : View) (c : ℕ) → view t id ≡ Ok v → lead m v ≡ goes c → ((b : Bool) → Says m t c b → Says m t id b) → Said m t c → Said m t id
   further id v c e l step s = (s.0, (sym (answer_more m t a id v c e l) ∙ s.1.0, step s.0 s.1.1))
+
+  -- a view with two children
+  picked : (id : ℕ) (v : View) (high low : ℕ) (c : Bool) → view t id ≡ Ok v → lead m v ≡ goes (cond c high low) → (c ≡ true → (b : Bool) → Says m t high b → Says m t id b) → (c ≡ false → (b : Bool) → Says m t low b → Says m t id b) → Said m t high → Said m t low → Said m t id
+  picked id v high low true e l up down h w = further id v high e l (up refl) h
+  picked id v high low false e l up down h w = further id v low e l (down refl) w
 
   by_view : (id : ℕ) → ((c : ℕ) → c < id → Said m t c) → (v : View) → view t id ≡ Ok v → SoundView id v → Said m t id
   by_view id ih always e s = (true, (sym (answer_end m t a id always true e refl), at_true e))
@@ -80,20 +81,13 @@ module _ (m : Meaning) (t : Table) (a : is_some (first_refusal t) ≡ false) whe
       let w = fits text_bytes (text_of m k) es (s.one (text_of m k)) in
       further id (string k es) (get_or es w.place no_edge).child e (ap goes w.leads) (λ b q. at_string k es w.place e w.within w.here q) (ih (get_or es w.place no_edge).child (s.falls w.place w.within))
   by_view id ih (in_literal k l high low) e s =
-      elim (cases_Bool (contained (text_of m k) (text_bytes l))) [
-        | inl q ↦ further id (in_literal k l high low) high e (ap (λ b. goes (cond b high low)) q) (λ b x. in_high k l high low e ((contained_says (text_of m k) (text_bytes l)).0 q) x) (ih high s.0)
-        | inr q ↦ further id (in_literal k l high low) low e (ap (λ b. goes (cond b high low)) q) (λ b x. in_low k l high low e (not_from_Decides (contained (text_of m k) (text_bytes l)) (contained_says (text_of m k) (text_bytes l)) q) x) (ih low s.1)
-      ]
+      let d = contained_says (text_of m k) (text_bytes l) in
+      picked id (in_literal k l high low) high low (contained (text_of m k) (text_bytes l)) e refl (λ q b x. in_high k l high low e (d.0 q) x) (λ q b x. in_low k l high low e (not_from_Decides (contained (text_of m k) (text_bytes l)) d q) x) (ih high s.0) (ih low s.1)
   by_view id ih (has_literal k l high low) e s =
-      elim (cases_Bool (contained (text_bytes l) (text_of m k))) [
-        | inl q ↦ further id (has_literal k l high low) high e (ap (λ b. goes (cond b high low)) q) (λ b x. has_high k l high low e ((contained_says (text_bytes l) (text_of m k)).0 q) x) (ih high s.0)
-        | inr q ↦ further id (has_literal k l high low) low e (ap (λ b. goes (cond b high low)) q) (λ b x. has_low k l high low e (not_from_Decides (contained (text_bytes l) (text_of m k)) (contained_says (text_bytes l) (text_of m k)) q) x) (ih low s.1)
-      ]
+      let d = contained_says (text_bytes l) (text_of m k) in
+      picked id (has_literal k l high low) high low (contained (text_bytes l) (text_of m k)) e refl (λ q b x. has_high k l high low e (d.0 q) x) (λ q b x. has_low k l high low e (not_from_Decides (contained (text_bytes l) (text_of m k)) d q) x) (ih high s.0) (ih low s.1)
   by_view id ih (extra l high low) e s =
-      elim (cases_Bool (m.active (text_bytes l))) [
-        | inl q ↦ further id (extra l high low) high e (ap (λ b. goes (cond b high low)) q) (λ b x. extra_high l high low e q x) (ih high s.0)
-        | inr q ↦ further id (extra l high low) low e (ap (λ b. goes (cond b high low)) q) (λ b x. extra_low l high low e q x) (ih low s.1)
-      ]
+      picked id (extra l high low) high low (m.active (text_bytes l)) e refl (λ q b x. extra_high l high low e q x) (λ q b x. extra_low l high low e q x) (ih high s.0) (ih low s.1)
   by_view id ih (extra_text l high low) e s = further id (extra_text l high low) low e refl (λ b x. text_low l high low e x) (ih low s.1)
 
   by_result : (id : ℕ) → ((c : ℕ) → c < id → Said m t c) → (r : Result View Fault) → view t id ≡ r → is_ok r ≡ true → Said m t id
@@ -123,9 +117,9 @@ module _ (m : Meaning) (t : Table) (a : is_some (first_refusal t) ≡ false) whe
       let sound = (view_shows t a id).sound (string k es) e in
       sym (answer_more m t a id (string k es) (get_or es j no_edge).child e (ap goes (chosen_is text_bytes v es (sound.one v) j lt h))) ∙ only s
   only {id} (in_high k l high low e w s) = sym (answer_more m t a id (in_literal k l high low) high e (ap (λ b. goes (cond b high low)) ((contained_says (text_of m k) (text_bytes l)).1 w))) ∙ only s
-  only {id} (in_low k l high low e n s) = sym (answer_more m t a id (in_literal k l high low) low e (ap (λ b. goes (cond b high low)) (off (contained (text_of m k) (text_bytes l)) (Within (text_of m k) (text_bytes l)) (contained_says (text_of m k) (text_bytes l)) n))) ∙ only s
+  only {id} (in_low k l high low e n s) = sym (answer_more m t a id (in_literal k l high low) low e (ap (λ b. goes (cond b high low)) (false_from_ne_true (contained (text_of m k) (text_bytes l)) (λ q. n ((contained_says (text_of m k) (text_bytes l)).0 q))))) ∙ only s
   only {id} (has_high k l high low e w s) = sym (answer_more m t a id (has_literal k l high low) high e (ap (λ b. goes (cond b high low)) ((contained_says (text_bytes l) (text_of m k)).1 w))) ∙ only s
-  only {id} (has_low k l high low e n s) = sym (answer_more m t a id (has_literal k l high low) low e (ap (λ b. goes (cond b high low)) (off (contained (text_bytes l) (text_of m k)) (Within (text_bytes l) (text_of m k)) (contained_says (text_bytes l) (text_of m k)) n))) ∙ only s
+  only {id} (has_low k l high low e n s) = sym (answer_more m t a id (has_literal k l high low) low e (ap (λ b. goes (cond b high low)) (false_from_ne_true (contained (text_bytes l) (text_of m k)) (λ q. n ((contained_says (text_bytes l) (text_of m k)).0 q))))) ∙ only s
   only {id} (extra_high l high low e q s) = sym (answer_more m t a id (extra l high low) high e (ap (λ b. goes (cond b high low)) q)) ∙ only s
   only {id} (extra_low l high low e q s) = sym (answer_more m t a id (extra l high low) low e (ap (λ b. goes (cond b high low)) q)) ∙ only s
   only {id} (text_low l high low e s) = sym (answer_more m t a id (extra_text l high low) low e refl) ∙ only s
@@ -146,3 +140,6 @@ evaluates t a = record {
   negates = λ m id. ap (λ (x : Walk). x.answer) (walk_opposite m t a id);
   alike = λ m id. ap (λ (x : Walk). x.reports) (walk_opposite m t a id);
 }
+
+-- the steps of a walk, and its law
+pub ruleset walk_steps = (answer_more, reports_more, reports_end, walk_lacks, evaluates)

@@ -1,5 +1,7 @@
 -- The walk, one view at a time, with no count of steps.
-use Rattle.std.proofs.Common.{◌≡◌, ℕ, zero, suc, ◌+◌, ◌<◌, ◌≤◌, Bool, true, false, cond, List, [], ◌∷◌, ◌++◌, map, length, get_or, drop, is_some, Ok, Err, Result, sym, refl, ap, ◌∙◌, subst, inl, inr, not-suc-le-zero, arith}
+use Rattle.std.proofs.Common.{◌≡◌, ℕ, zero, suc, ◌+◌, ◌<◌, ◌≤◌, Bool, true, false, cond, List, [], ◌∷◌, ◌++◌, map, length, get_or, drop, is_some, Some, None, Ok, Err, Option, Bor, Result, sym, refl, ap, ◌∙◌, subst, inl, inr, not-suc-le-zero, arith}
+use Rattle.std.specs.List.{find}
+use Rattle.std.specs.Option.{option_map, unwrap_or}
 use Rattle.std.proofs.lemmas.List.{at_drop_more, at_drop_all, append-nil}
 use Rattle.std.proofs.lemmas.Bool.{cases_Bool}
 use Rattle.values.specs.Lists.{times}
@@ -35,6 +37,18 @@ chosen_turn row v id es i d b lt e =
 pub chosen_end : {T : Type 0} (row : T → Row) (v : Row) (id : ℕ) (es : List (Edge T)) (i : ℕ) → length es ≤ i → chosen row v (map (seen id) (drop i es)) ≡ 1
 chosen_end row v id es i le = at_drop_all (λ fs. chosen row v (map (seen id) fs)) es i le
 
+-- the edge that is found leads there, and with none the search ends at FALSE
+pub found_leads : {T : Type 0} (row : T → Row) (v : Row) (id : ℕ) (es : List (Edge T)) (o : Option (Bor (Edge T))) → option_map (λ (x : Bor (Edge T)). x.now) o ≡ find (λ e. lies row e v) es → unwrap_or (option_map (λ (x : Bor (Edge T)). turned id x.now.child) o) 1 ≡ chosen row v (map (seen id) es)
+found_leads {T} row v id es o e = by o ∙ ap (λ (q : Option (Edge T)). unwrap_or (option_map (λ (x : Edge T). turned id x.child) q) 1) e ∙ leads es
+  where
+    by : (q : Option (Bor (Edge T))) → unwrap_or (option_map (λ (x : Bor (Edge T)). turned id x.now.child) q) 1 ≡ unwrap_or (option_map (λ (x : Edge T). turned id x.child) (option_map (λ (x : Bor (Edge T)). x.now) q)) 1
+    by None = refl
+    by (Some x) = refl
+
+    leads : (fs : List (Edge T)) → unwrap_or (option_map (λ (x : Edge T). turned id x.child) (find (λ f. lies row f v) fs)) 1 ≡ chosen row v (map (seen id) fs)
+    leads [] = refl
+    leads (f ∷ fs) = elim (cases_Bool (lies row f v)) [ inl q ↦ rw q | inr q ↦ rw q (leads fs) ]
+
 pub examined_turn : (key : MarkerValueString) (v : Row) (id : ℕ) (es : List (Edge Text)) (i : ℕ) (d : Edge Text) (b : Bool) → i < length es → b ≡ lies text_bytes (get_or es i d) v
     → examined key v (map (seen id) (drop i es)) ≡ edge_reports key (get_or es i d) ++ cond b [] (examined key v (map (seen id) (drop (i + 1) es)))
 examined_turn key v id es i d b lt e =
@@ -52,6 +66,9 @@ told_turn key v id es i d b t u lt e same =
     ∙ reported-append t (edge_reports key (get_or es i d)) (cond b [] (examined key v (map (seen id) (drop (i + 1) es))))
     ∙ sym (ap (reported t) (examined_turn key v id es i d b lt e))
 
+-- the steps of a search over edges
+pub ruleset edge_steps = (chosen_turn, chosen_end, told_turn, examined_end)
+
 -- ---- where a view leads lies below its id
 
 chosen_below : {T : Type 0} (row : T → Row) (v : Row) (id : ℕ) (es : List (Edge T)) → ((j : ℕ) → j < length es → (get_or es j no_edge).child < id) → times (λ e. lies row e v) es ≡ 1 → chosen row v es < id
@@ -66,21 +83,15 @@ pick_below : (b : Bool) (id high low : ℕ) → high < id → low < id → cond 
 pick_below true id high low h l = h
 pick_below false id high low h l = l
 
-goes_same : {a b : ℕ} → goes a ≡ goes b → a ≡ b
-goes_same e = cc
-
-ends_goes : {b : Bool} {c : ℕ} → ends b ≡ goes c → ⊥
-ends_goes e = let z : ◌≡◌ {A = ℕ} 0 1 = cc in omega arith
-
 pub lead_below : (m : Meaning) (id : ℕ) (v : View) → SoundView id v → (c : ℕ) → lead m v ≡ goes c → c < id
-lead_below m id always s c e = absurd (ends_goes e)
-lead_below m id never s c e = absurd (ends_goes e)
-lead_below m id (version k es) s c e = subst (λ (x : ℕ). x < id) (goes_same e) (chosen_below release_row (release_row (m.release k)) id es s.falls (s.one (release_row (m.release k))))
-lead_below m id (string k es) s c e = subst (λ (x : ℕ). x < id) (goes_same e) (chosen_below text_bytes (text_of m k) id es s.falls (s.one (text_of m k)))
-lead_below m id (in_literal k t high low) s c e = subst (λ (x : ℕ). x < id) (goes_same e) (pick_below (contained (text_of m k) (text_bytes t)) id high low s.0 s.1)
-lead_below m id (has_literal k t high low) s c e = subst (λ (x : ℕ). x < id) (goes_same e) (pick_below (contained (text_bytes t) (text_of m k)) id high low s.0 s.1)
-lead_below m id (extra t high low) s c e = subst (λ (x : ℕ). x < id) (goes_same e) (pick_below (m.active (text_bytes t)) id high low s.0 s.1)
-lead_below m id (extra_text t high low) s c e = subst (λ (x : ℕ). x < id) (goes_same e) s.1
+lead_below m id always s c e = cc
+lead_below m id never s c e = cc
+lead_below m id (version k es) s c e = subst (λ (x : ℕ). x < id) (cc) (chosen_below release_row (release_row (m.release k)) id es s.falls (s.one (release_row (m.release k))))
+lead_below m id (string k es) s c e = subst (λ (x : ℕ). x < id) (cc) (chosen_below text_bytes (text_of m k) id es s.falls (s.one (text_of m k)))
+lead_below m id (in_literal k t high low) s c e = subst (λ (x : ℕ). x < id) (cc) (pick_below (contained (text_of m k) (text_bytes t)) id high low s.0 s.1)
+lead_below m id (has_literal k t high low) s c e = subst (λ (x : ℕ). x < id) (cc) (pick_below (contained (text_bytes t) (text_of m k)) id high low s.0 s.1)
+lead_below m id (extra t high low) s c e = subst (λ (x : ℕ). x < id) (cc) (pick_below (m.active (text_bytes t)) id high low s.0 s.1)
+lead_below m id (extra_text t high low) s c e = subst (λ (x : ℕ). x < id) (cc) s.1
 
 -- ---- the walk
 
@@ -98,11 +109,15 @@ module _ (m : Meaning) (t : Table) (a : is_some (first_refusal t) ≡ false) whe
   walk_fuel (suc f) zero id lf lg = absurd (not-suc-le-zero lg)
   walk_fuel (suc f) (suc g) id lf lg = view_fuel f g id (omega arith) (omega arith) (λ c l h. walk_fuel f g c l h) (view t id) refl
 
+  -- where the view of an id leads lies below it
+  pub leads_down : (id : ℕ) (v : View) (c : ℕ) → view t id ≡ Ok v → lead m v ≡ goes c → c < id
+  leads_down id v c e w = lead_below m id v ((view_shows t a id).sound v e) c w
+
   -- the walk from an id whose view leads on
   pub walk_goes : (id : ℕ) (v : View) (c : ℕ) → view t id ≡ Ok v → lead m v ≡ goes c → walk m t id ≡ after (told m v) (walk m t c)
   unfolding walk
   walk_goes id v c e w =
-      let lt : c < id = lead_below m id v ((view_shows t a id).sound v e) c w in
+      let lt = leads_down id v c e w in
       ap (on_view m (walk_by id m t)) e ∙ ap (λ x. after (told m v) (on_where (walk_by id m t) x)) w ∙ ap (after (told m v)) (walk_fuel id (suc c) c lt (omega arith))
 
   -- the walk that ends here

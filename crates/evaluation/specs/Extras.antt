@@ -53,7 +53,8 @@ extras_by (suc f) names rs t id = on_result names rs (extras_by f names rs t) (v
 unfoldable pub extras : List Text → Option (List Release) → Table → ℕ → Bool
 extras names rs t id = extras_by (suc id) names rs t id
 
-abbrev pub unless_refused : Option Fault → Bool → Result Bool Fault
+-- the answer, unless something is refused
+abbrev pub unless_refused : {A : Type 0} → Option Fault → A → Result A Fault
 unless_refused None b = Ok b
 unless_refused (Some f) b = Err f
 

@@ -1,25 +1,30 @@
 -- What a step of the code says.
-use Rattle.std.specs.Prelude.{Bool, false, List}
+use Rattle.std.specs.Prelude.{◌≡◌, ℕ, Bool, false, List, slice_index_or}
 use Rattle.values.specs.Texts.{text_bytes}
+use Rattle.std.specs.declared.ops.ControlFlow.{ControlFlow}
+use Rattle.std.specs.declared.ops.ControlFlow.TheVariants.{Break, Continue}
+use Rattle.diagrams.specs.declared.ids.NodeId.{NodeId}
 use Rattle.diagrams.specs.declared.views.MarkerValueExtra.{MarkerValueExtra}
 use Rattle.diagrams.specs.declared.views.MarkerValueExtra.TheVariants.{Extra, Arbitrary}
-use Rattle.values.specs.declared.texts.Text.{Text}
-use Rattle.hosts.specs.Hosts.{Meaning}
-use Rattle.hosts.specs.Records.{among}
+use Rattle.hosts.specs.Tallies.{Tally, reported}
+use Rattle.hosts.specs.declared.warnings.Report.{Report}
 use Rattle.evaluation.specs.Walks.{Where, ends, goes}
-use Rattle.evaluation.specs.declared.evaluation.Step.{Step}
-use Rattle.evaluation.specs.declared.evaluation.Step.TheVariants.{Ends, Goes}
+use Rattle.evaluation.specs.declared.extras.Asked.{Asked}
 
-abbrev pub shown_step : Step → Where
-shown_step (Ends b) = ends b
-shown_step (Goes id) = goes id.0
+-- a reporter was given the reports, one by one, and no others
+abbrev pub Tells : {R : Type 0} → (R → Tally) → R → R → List Report → Type 0
+Tells tally before after reports = tally after ≡ reported (tally before) reports
 
--- a named extra is active when its name is, one with any text never
-abbrev pub active_extra : Meaning → MarkerValueExtra → Bool
-active_extra m (Extra t) = m.active (text_bytes t.now)
-active_extra m (Arbitrary t) = false
+-- an answer, or the id that a view leads to
+abbrev pub shown_step : ControlFlow Bool NodeId → Where
+shown_step (Break b) = ends b
+shown_step (Continue id) = goes id.0
 
--- a named extra is among names when its name is, one with any text never
-abbrev pub named_among : List Text → MarkerValueExtra → Bool
-named_among names (Extra t) = among names (text_bytes t.now)
-named_among names (Arbitrary t) = false
+-- a named extra passes when its name does, one with any text never
+abbrev pub name_passes : (List ℕ → Bool) → MarkerValueExtra → Bool
+name_passes test (Extra t) = test (text_bytes t.now)
+name_passes test (Arbitrary t) = false
+
+-- what an id that is settled may say
+abbrev pub settled : Asked → ℕ → Bool
+settled a id = slice_index_or a.table id false

@@ -5,11 +5,10 @@ ghost use Rattle.ranges.specs.Bounds.{lies};
 ghost use Rattle.diagrams.specs.Held.{table_of};
 ghost use Rattle.diagrams.specs.Ids.{turned};
 ghost use Rattle.diagrams.specs.Views.{shown_kind, seen};
-ghost use Rattle.hosts.specs.Tallies.{reported};
 ghost use Rattle.hosts.specs.Hosts.{text_of};
 ghost use Rattle.evaluation.specs.Walks.{bound_reports, single, edge_reports, examined, chosen, lead as the_lead, told, walk};
 ghost use Rattle.evaluation.specs.Evaluation.{Evaluates};
-ghost use Rattle.evaluation.specs.Steps.{shown_step, active_extra};
+ghost use Rattle.evaluation.specs.Steps.{Tells, shown_step, name_passes};
 
 use crate::substrings::contains;
 use diagrams::diagram::Diagram;
@@ -20,6 +19,7 @@ use hosts::reporters::Reporter;
 use hosts::warnings::{MarkerWarningKind, Report};
 use ranges::edges::Edge;
 use ranges::points::{HostText, Point};
+use std::ops::ControlFlow;
 use values::bounds::Bound;
 use values::faults::Fault;
 use values::keys::MarkerValueString;
@@ -38,18 +38,12 @@ fn is_single(lower: &Bound<Text>, upper: &Bound<Text>) -> bool
 
 // Reports a bound that has a value.
 fn report_bound<R: Reporter>(reporter: &mut R, key: MarkerValueString, bound: &Bound<Text>)
-    ensures { R.Reporter.tally reporter.new ≡ reported (R.Reporter.tally reporter.old) (bound_reports key bound.now) }
+    ensures { Tells R.Reporter.tally reporter.old reporter.new (bound_reports key bound.now) }
 {
-    let kind = MarkerWarningKind::LexicographicComparison;
     match bound {
         Bound::Unbounded => {}
-        Bound::Included(literal) => reporter.report(Report {
-            kind,
-            key,
-            literal: *literal,
-        }),
-        Bound::Excluded(literal) => reporter.report(Report {
-            kind,
+        Bound::Included(literal) | Bound::Excluded(literal) => reporter.report(Report {
+            kind: MarkerWarningKind::LexicographicComparison,
             key,
             literal: *literal,
         }),
@@ -58,7 +52,7 @@ fn report_bound<R: Reporter>(reporter: &mut R, key: MarkerValueString, bound: &B
 
 // Reports the bounds of an edge that have values, the lower first, unless the edge is one value.
 fn report_edge<R: Reporter>(reporter: &mut R, key: MarkerValueString, edge: &Edge<Text>)
-    ensures { R.Reporter.tally reporter.new ≡ reported (R.Reporter.tally reporter.old) (edge_reports key edge.now) }
+    ensures { Tells R.Reporter.tally reporter.old reporter.new (edge_reports key edge.now) }
 {
     if !is_single(&edge.lower, &edge.upper) {
         report_bound(reporter, key, &edge.lower);
@@ -71,30 +65,27 @@ fn choose_version<H: Host>(tree: &VersionMarkerTree, host: &H) -> NodeId
     ensures { result.0 ≡ chosen release_row (release_row ((H.Host.means host.now).release tree.now.key)) (map (seen tree.now.id.0) tree.now.edges.now) }
 {
     let release = host.get_version(tree.key);
-    for edge in tree.edges {
-        if edge.contains(release) {
-            return tree.child(edge);
-        }
+    match tree.edges.iter().find(|edge| edge.contains(release)) {
+        Some(edge) => tree.child(edge),
+        None => NodeId::FALSE,
     }
-    NodeId::FALSE
 }
 
 // Where the range of a text node that contains the host's text leads. The edges are examined from the first to that
 // one, and each reports.
+#[tactic(auto, using(crate::proofs::Walking::edge_steps))]
 fn choose_string<H: Host, R: Reporter>(
     tree: &StringMarkerTree,
     host: &H,
     reporter: &mut R,
 ) -> NodeId
     ensures child { result.0 ≡ chosen text_bytes (text_of (H.Host.means host.now) tree.now.key) (map (seen tree.now.id.0) tree.now.edges.now) }
-    ensures reports { R.Reporter.tally reporter.new ≡ reported (R.Reporter.tally reporter.old) (examined tree.now.key (text_of (H.Host.means host.now) tree.now.key) (map (seen tree.now.id.0) tree.now.edges.now)) }
+    ensures reports { Tells R.Reporter.tally reporter.old reporter.new (examined tree.now.key (text_of (H.Host.means host.now) tree.now.key) (map (seen tree.now.id.0) tree.now.edges.now)) }
 {
     let text = HostText {
         bytes: host.get_string(tree.key),
     };
-    let edges = tree.edges;
-    for place in 0..edges.len() {
-        let edge = &edges[place];
+    for edge in tree.edges {
         report_edge(reporter, tree.key, edge);
         if edge.contains(&text) {
             return tree.child(edge);
@@ -105,7 +96,7 @@ fn choose_string<H: Host, R: Reporter>(
 
 // Whether an extra is active on a host; one whose name is any text never is.
 fn is_active<H: Host>(name: &MarkerValueExtra, host: &H) -> bool
-    ensures { result ≡ active_extra (H.Host.means host.now) name.now }
+    ensures { result ≡ name_passes (H.Host.means host.now).active name.now }
 {
     match name {
         MarkerValueExtra::Extra(name) => host.is_active(name),
@@ -113,39 +104,37 @@ fn is_active<H: Host>(name: &MarkerValueExtra, host: &H) -> bool
     }
 }
 
-// What comes of a view: an answer, or the id that it leads to.
-#[derive(Clone, Copy)]
-pub(crate) enum Step {
-    Ends(bool),
-    Goes(NodeId),
-}
-
-// Where a view leads on a host. The reports go to the reporter.
-fn lead<H: Host, R: Reporter>(kind: &MarkerTreeKind, host: &H, reporter: &mut R) -> Step
+// Where a view leads on a host: to an answer, or on to an id. The reports go to the reporter.
+fn lead<H: Host, R: Reporter>(
+    kind: &MarkerTreeKind,
+    host: &H,
+    reporter: &mut R,
+) -> ControlFlow<bool, NodeId>
     ensures step { shown_step result ≡ the_lead (H.Host.means host.now) (shown_kind kind.now) }
-    ensures reports { R.Reporter.tally reporter.new ≡ reported (R.Reporter.tally reporter.old) (told (H.Host.means host.now) (shown_kind kind.now)) }
+    ensures reports { Tells R.Reporter.tally reporter.old reporter.new (told (H.Host.means host.now) (shown_kind kind.now)) }
 {
     match kind {
-        MarkerTreeKind::True => Step::Ends(true),
-        MarkerTreeKind::False => Step::Ends(false),
-        MarkerTreeKind::Version(tree) => Step::Goes(choose_version(tree, host)),
-        MarkerTreeKind::String(tree) => Step::Goes(choose_string(tree, host, reporter)),
+        MarkerTreeKind::True => ControlFlow::Break(true),
+        MarkerTreeKind::False => ControlFlow::Break(false),
+        MarkerTreeKind::Version(tree) => ControlFlow::Continue(choose_version(tree, host)),
+        MarkerTreeKind::String(tree) => ControlFlow::Continue(choose_string(tree, host, reporter)),
         MarkerTreeKind::In(tree) => {
             let high = contains(tree.value.as_bytes(), host.get_string(tree.key));
-            Step::Goes(if high { tree.high } else { tree.low })
+            ControlFlow::Continue(if high { tree.high } else { tree.low })
         }
         MarkerTreeKind::Contains(tree) => {
             let high = contains(host.get_string(tree.key), tree.value.as_bytes());
-            Step::Goes(if high { tree.high } else { tree.low })
+            ControlFlow::Continue(if high { tree.high } else { tree.low })
         }
         MarkerTreeKind::Extra(tree) => {
             let high = is_active(&tree.name, host);
-            Step::Goes(if high { tree.high } else { tree.low })
+            ControlFlow::Continue(if high { tree.high } else { tree.low })
         }
     }
 }
 
 // Whether a root holds on a host, or refusal 14. The reports go to the reporter.
+#[tactic(auto, using(crate::proofs::Saying::walk_steps))]
 pub fn evaluate<H: Host, R: Reporter>(
     diagram: &Diagram,
     root: NodeId,
@@ -153,15 +142,15 @@ pub fn evaluate<H: Host, R: Reporter>(
     reporter: &mut R,
 ) -> Result<bool, Fault>
     ensures answer { result ≡ (walk (H.Host.means host.now) (table_of diagram.now) root.0).answer }
-    ensures reports { R.Reporter.tally reporter.new ≡ reported (R.Reporter.tally reporter.old) (walk (H.Host.means host.now) (table_of diagram.now) root.0).reports }
+    ensures reports { Tells R.Reporter.tally reporter.old reporter.new (walk (H.Host.means host.now) (table_of diagram.now) root.0).reports }
     ensures law { Evaluates (table_of diagram.now) }
 {
     let mut at = root;
     loop {
         let kind = diagram.kind(at)?;
         match lead(&kind, host, reporter) {
-            Step::Ends(answer) => return Ok(answer),
-            Step::Goes(child) => at = child,
+            ControlFlow::Break(answer) => return Ok(answer),
+            ControlFlow::Continue(child) => at = child,
         }
     }
 }

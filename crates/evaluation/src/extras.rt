@@ -1,13 +1,12 @@
-ghost use Rattle.std.specs.Prelude.{◌≡◌, Bool, false, ◌&&◌, List, map, Some, None, slice_index_or};
-ghost use Rattle.std.specs.Option.{option_map};
+ghost use Rattle.std.specs.Prelude.{◌≡◌, ◌&&◌, map, Some, None};
+ghost use Rattle.std.specs.Option.{option_copied};
 ghost use Rattle.values.specs.Lists.{any};
-ghost use Rattle.values.specs.Releases.{release_row};
-ghost use Rattle.ranges.specs.Bounds.{lies};
 ghost use Rattle.diagrams.specs.Held.{table_of};
 ghost use Rattle.diagrams.specs.Ids.{turned};
-ghost use Rattle.diagrams.specs.Views.{shown_kind, seen, view, shown};
+ghost use Rattle.diagrams.specs.Views.{shown_kind, seen, view};
+ghost use Rattle.hosts.specs.Records.{among};
 ghost use Rattle.evaluation.specs.Extras.{counts as does_count, may_say, on_result, extras_answer, ExtrasLaw};
-ghost use Rattle.evaluation.specs.Steps.{named_among};
+ghost use Rattle.evaluation.specs.Steps.{name_passes, settled};
 
 use diagrams::diagram::Diagram;
 use diagrams::ids::NodeId;
@@ -17,168 +16,129 @@ use ranges::edges::Edge;
 use ranges::points::Point;
 use values::faults::Fault;
 use values::keys::MarkerValueVersion;
-use values::orders::Order;
 use values::releases::Release;
 use values::texts::Text;
 
 // As many ids as the largest diagram has, TRUE and FALSE included.
 const MOST_IDS: usize = 8194;
 
-// Whether some release lies in an edge's range.
-fn any_inside(edge: &Edge<Release>, releases: &[Release]) -> bool
-    ensures { result ≡ any (λ v. lies release_row edge.now (release_row v)) releases.now }
-{
-    for release in releases {
-        if edge.contains(release) {
-            return true;
+// What is asked, the extras that are active and the releases of Python where they are known, and what the ids that are
+// settled may say.
+#[derive(Drop)]
+struct Asked<'a> {
+    names: &'a [Text],
+    releases: Option<&'a [Release]>,
+    table: [bool; MOST_IDS],
+}
+
+impl Asked<'_> {
+    // Whether an id that is settled may say yes.
+    fn says(&self, id: NodeId) -> bool
+        ensures { result ≡ settled self.now id.0 }
+    {
+        self.table.get(id.0 as usize).copied().unwrap_or(false)
+    }
+
+    // Whether an edge of a release node counts.
+    fn counts(&self, key: MarkerValueVersion, edge: &Edge<Release>) -> bool
+        ensures { result ≡ does_count (option_copied self.now.releases) key edge.now }
+    {
+        match (self.releases, key) {
+            (Some(releases), MarkerValueVersion::PythonVersion) => releases
+                .iter()
+                .any(|release| edge.contains(release)),
+            _ => true,
         }
     }
-    false
-}
 
-// Whether an edge of a release node counts.
-fn counts(releases: Option<&[Release]>, key: MarkerValueVersion, edge: &Edge<Release>) -> bool
-    ensures { result ≡ does_count (option_map (λ x. x.now) releases.entry) key edge.now }
-{
-    match (releases, key) {
-        (Some(releases), MarkerValueVersion::PythonVersion) => any_inside(edge, releases),
-        _ => true,
+    // Whether an edge of a release node that counts leads to a yes.
+    fn any_version(&self, tree: &VersionMarkerTree) -> bool
+        ensures { result ≡ any (λ e. does_count (option_copied self.now.releases) tree.now.key e && settled self.now e.child) (map (seen tree.now.id.0) tree.now.edges.now) }
+    {
+        tree.edges.iter().any(|edge| self.counts(tree.key, edge) && self.says(tree.child(edge)))
     }
-}
 
-// What the table has for an id.
-fn settled(table: &[bool], id: NodeId) -> bool
-    ensures { result ≡ slice_index_or table.now id.0 false }
-{
-    let place = id.0 as usize;
-    if place < table.len() {
-        table[place]
-    } else {
-        false
+    // Whether an edge of a text node leads to a yes.
+    fn any_string(&self, tree: &StringMarkerTree) -> bool
+        ensures { result ≡ any (λ e. settled self.now e.child) (map (seen tree.now.id.0) tree.now.edges.now) }
+    {
+        tree.edges.iter().any(|edge| self.says(tree.child(edge)))
     }
-}
 
-// Whether an edge of a release node counts and leads to a yes.
-fn leads_to_yes(
-    tree: &VersionMarkerTree,
-    releases: Option<&[Release]>,
-    table: &[bool],
-    edge: &Edge<Release>,
-) -> bool
-    ensures { result ≡ (does_count (option_map (λ x. x.now) releases.entry) tree.now.key edge.now && slice_index_or table.now (turned tree.now.id.0 edge.now.child) false) }
-{
-    counts(releases, tree.key, edge) && settled(table, tree.child(edge))
-}
-
-// Whether an edge of a release node that counts leads to a yes.
-fn any_version(tree: &VersionMarkerTree, releases: Option<&[Release]>, table: &[bool]) -> bool
-    ensures { result ≡ any (λ e. does_count (option_map (λ x. x.now) releases.entry) tree.now.key e && slice_index_or table.now e.child false) (map (seen tree.now.id.0) tree.now.edges.now) }
-{
-    for edge in tree.edges {
-        if leads_to_yes(tree, releases, table, edge) {
-            return true;
+    // Whether the name of an extra is among the names; one with any text never is.
+    fn is_named(&self, name: &MarkerValueExtra) -> bool
+        ensures { result ≡ name_passes (among self.now.names.now) name.now }
+    {
+        match name {
+            MarkerValueExtra::Extra(name) => is_among(name, self.names),
+            MarkerValueExtra::Arbitrary(_) => false,
         }
     }
-    false
-}
 
-// Whether an edge of a text node leads to a yes.
-fn any_string(tree: &StringMarkerTree, table: &[bool]) -> bool
-    ensures { result ≡ any (λ e. slice_index_or table.now e.child false) (map (seen tree.now.id.0) tree.now.edges.now) }
-{
-    for edge in tree.edges {
-        if settled(table, tree.child(edge)) {
-            return true;
+    // Whether a view may say yes, where the ids below it are settled.
+    fn may_be(&self, kind: &MarkerTreeKind) -> bool
+        ensures { result ≡ may_say self.now.names.now (option_copied self.now.releases) (settled self.now) (shown_kind kind.now) }
+    {
+        match kind {
+            MarkerTreeKind::True => true,
+            MarkerTreeKind::False => false,
+            MarkerTreeKind::Version(tree) => self.any_version(tree),
+            MarkerTreeKind::String(tree) => self.any_string(tree),
+            MarkerTreeKind::In(tree) => self.says(tree.high) || self.says(tree.low),
+            MarkerTreeKind::Contains(tree) => self.says(tree.high) || self.says(tree.low),
+            MarkerTreeKind::Extra(tree) => {
+                let high = self.is_named(&tree.name);
+                self.says(if high { tree.high } else { tree.low })
+            }
         }
     }
-    false
-}
 
-// Whether the name of an extra is among names; one with any text never is.
-fn is_named(name: &MarkerValueExtra, names: &[Text]) -> bool
-    ensures { result ≡ named_among names.now name.now }
-{
-    match name {
-        MarkerValueExtra::Extra(name) => is_among(name, names),
-        MarkerValueExtra::Arbitrary(_) => false,
-    }
-}
-
-// Whether a view may say yes, where the table has what the ids below it may say.
-fn may_be(
-    kind: &MarkerTreeKind,
-    names: &[Text],
-    releases: Option<&[Release]>,
-    table: &[bool],
-) -> bool
-    ensures { result ≡ may_say names.now (option_map (λ x. x.now) releases.entry) (λ c. slice_index_or table.now c false) (shown_kind kind.now) }
-{
-    match kind {
-        MarkerTreeKind::True => true,
-        MarkerTreeKind::False => false,
-        MarkerTreeKind::Version(tree) => any_version(tree, releases, table),
-        MarkerTreeKind::String(tree) => any_string(tree, table),
-        MarkerTreeKind::In(tree) => settled(table, tree.high) || settled(table, tree.low),
-        MarkerTreeKind::Contains(tree) => settled(table, tree.high) || settled(table, tree.low),
-        MarkerTreeKind::Extra(tree) => {
-            let high = is_named(&tree.name, names);
-            settled(table, if high { tree.high } else { tree.low })
+    // Whether an id may say yes, where the ids below it are settled.
+    fn settle(&self, diagram: &Diagram, id: NodeId) -> bool
+        ensures { result ≡ on_result self.now.names.now (option_copied self.now.releases) (settled self.now) (view (table_of diagram.now) id.0) }
+    {
+        match diagram.kind(id) {
+            Ok(kind) => self.may_be(&kind),
+            Err(_) => false,
         }
     }
-}
-
-// Whether an id may say yes.
-fn settle(
-    diagram: &Diagram,
-    id: NodeId,
-    names: &[Text],
-    releases: Option<&[Release]>,
-    table: &[bool],
-) -> bool
-    ensures { result ≡ on_result names.now (option_map (λ x. x.now) releases.entry) (λ c. slice_index_or table.now c false) (view (table_of diagram.now) id.0) }
-{
-    match diagram.kind(id) {
-        Ok(kind) => may_be(&kind, names, releases, table),
-        Err(_) => false,
-    }
-}
-
-// No releases of Python are known.
-fn any_python<'a>() -> Option<&'a [Release]>
-    ensures { result ≡ None }
-{
-    None
 }
 
 // Whether a root may say yes. Each id up to it is settled once, from the lowest, since children fall.
+#[tactic(auto, using(crate::proofs::Possibly::roots))]
 fn evaluate_possible(
     diagram: &Diagram,
     root: NodeId,
     names: &[Text],
     releases: Option<&[Release]>,
 ) -> Result<bool, Fault>
-    ensures { result ≡ extras_answer names.now (option_map (λ x. x.now) releases.entry) (table_of diagram.now) root.0 }
+    ensures { result ≡ extras_answer names.now (option_copied releases.entry) (table_of diagram.now) root.0 }
 {
     diagram.kind(root)?;
     check_names(names)?;
-    let mut table = [false; MOST_IDS];
-    for id in 0..root.0 + 1 {
-        let says = settle(diagram, NodeId(id), names, releases, &table);
-        table[id as usize] = says;
+    let mut asked = Asked {
+        names,
+        releases,
+        table: [false; MOST_IDS],
+    };
+    for id in 0..=root.0 {
+        asked.table[id as usize] = asked.settle(diagram, NodeId(id));
     }
-    Ok(table[root.0 as usize])
+    Ok(asked.says(root))
 }
 
 // Whether a root may say yes with the extras of the names active: refusal 14, then 16. Whatever else a host says counts
 // as possible.
+#[tactic(auto, using(crate::proofs::Possibly::extras_law))]
 pub fn evaluate_extras(diagram: &Diagram, root: NodeId, names: &[Text]) -> Result<bool, Fault>
     ensures answer { result ≡ extras_answer names.now None (table_of diagram.now) root.0 }
     ensures law { ExtrasLaw (table_of diagram.now) }
 {
-    evaluate_possible(diagram, root, names, any_python())
+    evaluate_possible(diagram, root, names, None)
 }
 
 // The same, where `python_version` is one of the releases.
+#[tactic(auto, using(crate::proofs::Possibly::extras_law))]
 pub fn evaluate_extras_and_python_version(
     diagram: &Diagram,
     root: NodeId,

@@ -6,10 +6,5 @@ pub fn contains(text: &[u8], part: &[u8]) -> bool
     ensures answer { result ≡ contained part.now text.now }
     ensures law { Decides result (Within part.now text.now) }
 {
-    for start in 0..text.len() {
-        if text[start..text.len()].starts_with(part) {
-            return true;
-        }
-    }
-    part.is_empty()
+    part.is_empty() || text.windows(part.len()).any(|window| window == part)
 }

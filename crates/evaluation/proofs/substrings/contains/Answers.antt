@@ -1,30 +1,20 @@
-use Rattle.std.proofs.Common.{◌≡◌, ℕ, ◌-◌, Bool, true, false, length, take, drop, sym, ◌∙◌}
-use Rattle.std.proofs.lemmas.List.{at_drop_all}
-use Rattle.std.proofs.lemmas.Bool.Decides.{Decides-at}
-use Rattle.evaluation.specs.Substrings.{contained}
-use Rattle.evaluation.proofs.Finding.{starts, turn, ends, contained_says}
+use Rattle.std.proofs.Common.{◌≡◌, length, Decides, rules, tests, of_calls}
+use Rattle.std.specs.Slice.Iter.{windows_size, windows_rest}
+use Rattle.evaluation.specs.Substrings.{Within}
+use Rattle.evaluation.proofs.Finding.{windows_say, empty_within, contains_test}
 use Rattle.evaluation.proofs.substrings.contains.Goals as goal
 
-pub returns-then-starts_with : goal.returns-then-starts_with
-returns-then-starts_with c =
-    let text = c.args.text.now in
-    let part = c.args.part.now in
-    let i : ℕ = c.loop-start.start in
-    let here = turn part text i true c.loop-start-test.true (starts part (take (length text - i) (drop i text)) true c.if-starts_with.ensures.value) in
-    let answer : true ≡ contained part text = sym here ∙ c.loop-start.invariant in
-    record { answer = answer; law = Decides-at true (contained part text) answer (contained_says part text) }
+pub returns-then-is_empty : goal.returns-then-is_empty
+returns-then-is_empty c =
+    let none : length c.args.part.now ≡ 0 = search (rules, tests) in
+    let law : Decides c.is_empty.result (Within c.args.part.now c.args.text.now) = (λ e. empty_within _ _ none, λ w. c.if-is_empty.true) in
+    record { answer = contains_test _ _ _ law; law = law }
 
-pub loop-start-preserved : goal.loop-start-preserved
-loop-start-preserved c =
-    let text = c.args.text.now in
-    let part = c.args.part.now in
-    let i : ℕ = c.loop-start.start in
-    sym (turn part text i false c.loop-start-test.true (starts part (take (length text - i) (drop i text)) false c.if-starts_with.ensures.value)) ∙ c.loop-start.invariant
-
-pub returns : goal.returns
-returns c =
-    let text = c.args.text.now in
-    let part = c.args.part.now in
-    let r : Bool = c.is_empty.result in
-    let answer : r ≡ contained part text = ends part r c.is_empty.ensures ∙ sym (at_drop_all (contained part) text c.loop-start.start c.loop-start-test.false) ∙ c.loop-start.invariant in
-    record { answer = answer; law = Decides-at r (contained part text) answer (contained_says part text) }
+pub returns-else-is_empty : goal.returns-else-is_empty
+returns-else-is_empty c =
+    let h = c.any.ensures.runs in
+    let size : windows_size h.0.from ≡ length c.args.part.now = search rules in
+    let rest : windows_rest h.0.from ≡ c.args.text.now = search rules in
+    let run = c.windows.ensures.runs h.0 h.0.seen (search rules) in
+    let law = windows_say c.args.part.now c.args.text.now h.0 (rw (size, rest) at run) _ (λ x b k. search (rules, tests)) c.any.result (search (rules, of_calls)) h.2 in
+    record { answer = contains_test c.args.part.now c.args.text.now c.any.result law; law = law }

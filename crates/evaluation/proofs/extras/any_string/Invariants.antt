@@ -1,8 +1,0 @@
-use Rattle.std.proofs.Common.{◌≡◌, false, map, get_or, drop}
-use Rattle.values.specs.Lists.{any}
-use Rattle.diagrams.specs.Views.{seen}
-use Rattle.evaluation.proofs.extras.any_string.Given as goal
-
--- the edges that are left decide
-abbrev pub invariant-loop-edge : goal.invariant-loop-edge
-invariant-loop-edge l = any (λ e. get_or l.table e.child false) (map (seen l.tree.id.0) (drop l.edge-index l.edge-items)) ≡ any (λ e. get_or l.table e.child false) (map (seen l.tree.id.0) l.edge-items)
