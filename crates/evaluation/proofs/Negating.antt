@@ -3,7 +3,7 @@ use Rattle.std.proofs.Common.{◌≡◌, ℕ, zero, suc, ◌-◌, ◌/◌, ◌<�
 use Rattle.std.specs.Option.{option_map, ok_or}
 use Rattle.std.proofs.lemmas.Bool.{cases_Bool, cases_eq, ne_eqb}
 use Rattle.std.proofs.lemmas.Bool.Decides.{nat_tests}
-use Rattle.values.specs.Lists.{times}
+use Rattle.std.specs.List.{count_by}
 use Rattle.values.specs.Rows.{Row}
 use Rattle.values.specs.Releases.{release_row}
 use Rattle.values.specs.Texts.{text_bytes}
@@ -120,7 +120,7 @@ abbrev flip_where : Where → Where
 flip_where (ends b) = ends (not b)
 flip_where (goes c) = goes (opposite c)
 
-chosen_flipped : {T : Type 0} (row : T → Row) (v : Row) (es : List (Edge T)) → times (λ e. lies row e v) es ≡ 1 → chosen row v (map flipped es) ≡ opposite (chosen row v es)
+chosen_flipped : {T : Type 0} (row : T → Row) (v : Row) (es : List (Edge T)) → count_by (λ e. lies row e v) es ≡ 1 → chosen row v (map flipped es) ≡ opposite (chosen row v es)
 chosen_flipped row v [] one = absurd (omega arith)
 chosen_flipped row v (e ∷ es) one = elim (cases_Bool (lies row e v)) [ inl q ↦ rw q | inr q ↦ rw q (chosen_flipped row v es (rw q at one)) ]
 

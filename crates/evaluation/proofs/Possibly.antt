@@ -4,7 +4,7 @@ use Rattle.std.specs.Ordering.{is_eq}
 use Rattle.std.specs.Cmp.{Equal-is}
 use Rattle.std.proofs.lemmas.Bool.{cases_Bool, and_parts, and_from, or_cases, or_left, or_right, leb-true, true≢false}
 use Rattle.std.proofs.lemmas.List.{get_or-set_same, get_or-set_other}
-use Rattle.values.specs.Lists.{any}
+use Rattle.std.specs.List.{list_any}
 use Rattle.values.specs.Rows.{by_row}
 use Rattle.values.specs.Releases.{release_row}
 use Rattle.values.specs.Texts.{text_bytes}
@@ -19,7 +19,8 @@ use Rattle.ranges.specs.Bounds.{lies}
 use Rattle.ranges.specs.Cover.{no_edge}
 use Rattle.ranges.specs.declared.edges.Edge.{Edge}
 use Rattle.diagrams.specs.Tables.{Table}
-use Rattle.diagrams.specs.Admission.{answer, first_refusal}
+use Rattle.values.specs.Faults.{answer, unless_refused}
+use Rattle.diagrams.specs.Admission.{first_refusal}
 use Rattle.diagrams.specs.Views.{View, always, never, version, string, in_literal, has_literal, extra, extra_text, known, view, SoundView}
 use Rattle.diagrams.proofs.Viewing.{view_shows}
 use Rattle.hosts.specs.Hosts.{Meaning}
@@ -27,17 +28,16 @@ use Rattle.hosts.specs.Records.{among, names_refusal}
 use Rattle.evaluation.specs.Walks.{walk}
 use Rattle.evaluation.specs.Evaluation.{Says, Evaluates}
 use Rattle.evaluation.specs.Evaluation as says
-use Rattle.evaluation.specs.Extras.{counts, may_say, on_result, extras_by, extras, Possible, at_true, at_version, at_string, in_high, in_low, has_high, has_low, extra_high, extra_low, text_low, includes, extras_answer, ExtrasLaw, unless_refused}
+use Rattle.evaluation.specs.Extras.{counts, may_say, on_result, extras_by, extras, Possible, at_true, at_version, at_string, in_high, in_low, has_high, has_low, extra_high, extra_low, text_low, includes, extras_answer, ExtrasLaw}
 use Rattle.std.proofs.lemmas.List.Folds.{list_any_at}
-use Rattle.evaluation.proofs.Asking.{any_is}
 use Rattle.evaluation.proofs.Saying.{evaluates, lacks_view}
 use Rattle.diagrams.proofs.Lawful.{sound}
 
 -- ---- what is said depends on the children alone
 
-any_same : {A : Type 0} (d : A) (p q : A → Bool) (xs : List A) → ((j : ℕ) → j < length xs → p (get_or xs j d) ≡ q (get_or xs j d)) → any p xs ≡ any q xs
+any_same : {A : Type 0} (d : A) (p q : A → Bool) (xs : List A) → ((j : ℕ) → j < length xs → p (get_or xs j d) ≡ q (get_or xs j d)) → list_any p xs ≡ list_any q xs
 any_same d p q [] h = refl
-any_same d p q (x ∷ xs) h = ap (λ b. b || any p xs) (h 0 (omega arith)) ∙ ap (λ b. q x || b) (any_same d p q xs (λ j lt. h (suc j) (omega arith)))
+any_same d p q (x ∷ xs) h = ap (λ b. b || list_any p xs) (h 0 (omega arith)) ∙ ap (λ b. q x || b) (any_same d p q xs (λ j lt. h (suc j) (omega arith)))
 
 module _ (names : List Text) (rs : Option (List Release)) where
   pub may_same : (id : ℕ) (s s' : ℕ → Bool) → ((c : ℕ) → c < id → s c ≡ s' c) → (v : View) → SoundView id v → may_say names rs s v ≡ may_say names rs s' v
@@ -84,16 +84,16 @@ module _ (names : List Text) (rs : Option (List Release)) where
 
 -- ---- in plain words
 
-some_edge : {A : Type 0} (d : A) (p : A → Bool) (xs : List A) → any p xs ≡ true → (j : ℕ) × ((j < length xs) × (p (get_or xs j d) ≡ true))
+some_edge : {A : Type 0} (d : A) (p : A → Bool) (xs : List A) → list_any p xs ≡ true → (j : ℕ) × ((j < length xs) × (p (get_or xs j d) ≡ true))
 some_edge d p [] e = absurd (true≢false (sym e))
 some_edge d p (x ∷ xs) e =
-    elim (or_cases (p x) (any p xs) e) [
+    elim (or_cases (p x) (list_any p xs) e) [
       | inl h ↦ (0, (omega arith, h))
       | inr h ↦ let w = some_edge d p xs h in (suc w.0, (let l = w.1.0 in omega arith, w.1.1))
     ]
 
-edge_some : {A : Type 0} (d : A) (p : A → Bool) (xs : List A) (j : ℕ) → j < length xs → p (get_or xs j d) ≡ true → any p xs ≡ true
-edge_some d p xs j lt h = any_is p xs ∙ list_any_at p xs j d lt h
+edge_some : {A : Type 0} (d : A) (p : A → Bool) (xs : List A) (j : ℕ) → j < length xs → p (get_or xs j d) ≡ true → list_any p xs ≡ true
+edge_some d p xs j lt h = list_any_at p xs j d lt h
 
 module _ (names : List Text) (rs : Option (List Release)) (t : Table) (a : is_some (first_refusal t) ≡ false) where
   abbrev X : ℕ → Bool
@@ -147,12 +147,12 @@ counts_host m (Some rs) inc ImplementationVersion e h = refl
 counts_host m (Some rs) inc PythonFullVersion e h = refl
 counts_host m (Some rs) inc PythonVersion e h = found rs inc
   where
-    found : (qs : List Release) → any (λ r. is_eq (by_row (release_row r) (release_row (m.release PythonVersion)))) qs ≡ true → any (λ r. lies release_row e (release_row r)) qs ≡ true
+    found : (qs : List Release) → list_any (λ r. is_eq (by_row (release_row r) (release_row (m.release PythonVersion)))) qs ≡ true → list_any (λ r. lies release_row e (release_row r)) qs ≡ true
     found [] q = absurd (true≢false (sym q))
     found (r ∷ qs) q =
-        elim (or_cases (is_eq (by_row (release_row r) (release_row (m.release PythonVersion)))) (any (λ x. is_eq (by_row (release_row x) (release_row (m.release PythonVersion)))) qs) q) [
-          | inl w ↦ or_left (lies release_row e (release_row r)) (any (λ x. lies release_row e (release_row x)) qs) (ap (lies release_row e) (row_same (release_row r) (release_row (m.release PythonVersion)) ((Equal-is (by_row (release_row r) (release_row (m.release PythonVersion)))).0 w)) ∙ h)
-          | inr w ↦ or_right (lies release_row e (release_row r)) (any (λ x. lies release_row e (release_row x)) qs) (found qs w)
+        elim (or_cases (is_eq (by_row (release_row r) (release_row (m.release PythonVersion)))) (list_any (λ x. is_eq (by_row (release_row x) (release_row (m.release PythonVersion)))) qs) q) [
+          | inl w ↦ or_left (lies release_row e (release_row r)) (list_any (λ x. lies release_row e (release_row x)) qs) (ap (lies release_row e) (row_same (release_row r) (release_row (m.release PythonVersion)) ((Equal-is (by_row (release_row r) (release_row (m.release PythonVersion)))).0 w)) ∙ h)
+          | inr w ↦ or_right (lies release_row e (release_row r)) (list_any (λ x. lies release_row e (release_row x)) qs) (found qs w)
         ]
 
 module _ (m : Meaning) (names : List Text) (rs : Option (List Release)) (t : Table) (act : (n : List ℕ) → m.active n ≡ among names n) (inc : includes m rs ≡ true) where

@@ -3,12 +3,13 @@ use Rattle.std.proofs.Common.{◌≡◌, ℕ, zero, suc, ◌/◌, ◌<◌, Bool,
 use Rattle.std.specs.Option.{ok_or}
 use Rattle.std.proofs.lemmas.Bool.{cases_Bool, false_from_ne_true, true≢false, leb-true, le-leb}
 use Rattle.std.proofs.lemmas.Bool.Decides.{not_from_Decides}
-use Rattle.values.specs.Lists.{times}
+use Rattle.std.specs.List.{count_by}
 use Rattle.values.specs.Rows.{Row}
 use Rattle.values.specs.Releases.{release_row}
 use Rattle.values.specs.Texts.{text_bytes}
 use Rattle.values.specs.declared.faults.Fault.{Fault}
 use Rattle.values.specs.declared.faults.Fault.TheVariants.{UnknownId}
+use Rattle.ranges.proofs.Parting.{counted}
 use Rattle.ranges.specs.Bounds.{lies}
 use Rattle.ranges.specs.Cover.{no_edge}
 use Rattle.ranges.specs.declared.edges.Edge.{Edge}
@@ -32,7 +33,7 @@ pub record Fits {T : Type 0} (row : T → Row) (v : Row) (es : List (Edge T)) : 
   pub here : lies row (get_or es place no_edge) v ≡ true
   pub leads : chosen row v es ≡ (get_or es place no_edge).child
 
-fits : {T : Type 0} (row : T → Row) (v : Row) (es : List (Edge T)) → times (λ e. lies row e v) es ≡ 1 → Fits row v es
+fits : {T : Type 0} (row : T → Row) (v : Row) (es : List (Edge T)) → count_by (λ e. lies row e v) es ≡ 1 → Fits row v es
 fits row v [] one = absurd (omega arith)
 fits row v (e ∷ es) one =
     elim (cases_Bool (lies row e v)) [
@@ -42,18 +43,18 @@ fits row v (e ∷ es) one =
           record { place = suc w.place; within = let x = w.within in omega arith; here = w.here; leads = ap (λ b. cond b e.child (chosen row v es)) q ∙ w.leads }
     ]
 
-none_fits : {T : Type 0} (row : T → Row) (v : Row) (es : List (Edge T)) → times (λ e. lies row e v) es ≡ 0 → (j : ℕ) → j < length es → lies row (get_or es j no_edge) v ≡ true → ⊥
+none_fits : {T : Type 0} (row : T → Row) (v : Row) (es : List (Edge T)) → count_by (λ e. lies row e v) es ≡ 0 → (j : ℕ) → j < length es → lies row (get_or es j no_edge) v ≡ true → ⊥
 none_fits row v [] none j lt h = not-suc-le-zero lt
-none_fits row v (e ∷ es) none zero lt h = omega (arith, rw h at none)
+none_fits row v (e ∷ es) none zero lt h = omega (arith, rw h at (sym (counted (λ d. lies row d v) e es) ∙ none))
 none_fits row v (e ∷ es) none (suc j) lt h =
-    elim (cases_Bool (lies row e v)) [ inl q ↦ omega (arith, rw q at none) | inr q ↦ none_fits row v es (rw q at none) j (le_of_suc-le-suc lt) h ]
+    elim (cases_Bool (lies row e v)) [ inl q ↦ omega (arith, rw q at (sym (counted (λ d. lies row d v) e es) ∙ none)) | inr q ↦ none_fits row v es (rw q at none) j (le_of_suc-le-suc lt) h ]
 
-chosen_is : {T : Type 0} (row : T → Row) (v : Row) (es : List (Edge T)) → times (λ e. lies row e v) es ≡ 1 → (j : ℕ) → j < length es → lies row (get_or es j no_edge) v ≡ true → chosen row v es ≡ (get_or es j no_edge).child
+chosen_is : {T : Type 0} (row : T → Row) (v : Row) (es : List (Edge T)) → count_by (λ e. lies row e v) es ≡ 1 → (j : ℕ) → j < length es → lies row (get_or es j no_edge) v ≡ true → chosen row v es ≡ (get_or es j no_edge).child
 chosen_is row v [] one j lt h = absurd (not-suc-le-zero lt)
 chosen_is row v (e ∷ es) one zero lt h = ap (λ b. cond b e.child (chosen row v es)) h
 chosen_is row v (e ∷ es) one (suc j) lt h =
     elim (cases_Bool (lies row e v)) [
-      | inl q ↦ absurd (none_fits row v es (omega (arith, rw q at one)) j (le_of_suc-le-suc lt) h)
+      | inl q ↦ absurd (none_fits row v es (omega (arith, rw q at (sym (counted (λ d. lies row d v) e es) ∙ one))) j (le_of_suc-le-suc lt) h)
       | inr q ↦ ap (λ b. cond b e.child (chosen row v es)) q ∙ chosen_is row v es (rw q at one) j (le_of_suc-le-suc lt) h
     ]
 

@@ -1,10 +1,9 @@
 -- The walk, one view at a time, with no count of steps.
 use Rattle.std.proofs.Common.{◌≡◌, ℕ, zero, suc, ◌+◌, ◌<◌, ◌≤◌, Bool, true, false, cond, List, [], ◌∷◌, ◌++◌, map, length, get_or, drop, is_some, Some, None, Ok, Err, Option, Bor, Result, sym, refl, ap, ◌∙◌, subst, inl, inr, not-suc-le-zero, arith}
-use Rattle.std.specs.List.{find}
+use Rattle.std.specs.List.{find, count_by}
 use Rattle.std.specs.Option.{option_map, unwrap_or}
 use Rattle.std.proofs.lemmas.List.{at_drop_more, at_drop_all, append-nil}
 use Rattle.std.proofs.lemmas.Bool.{cases_Bool}
-use Rattle.values.specs.Lists.{times}
 use Rattle.values.specs.Rows.{Row}
 use Rattle.values.specs.Releases.{release_row}
 use Rattle.values.specs.Texts.{text_bytes}
@@ -71,7 +70,7 @@ pub ruleset edge_steps = (chosen_turn, chosen_end, told_turn, examined_end)
 
 -- ---- where a view leads lies below its id
 
-chosen_below : {T : Type 0} (row : T → Row) (v : Row) (id : ℕ) (es : List (Edge T)) → ((j : ℕ) → j < length es → (get_or es j no_edge).child < id) → times (λ e. lies row e v) es ≡ 1 → chosen row v es < id
+chosen_below : {T : Type 0} (row : T → Row) (v : Row) (id : ℕ) (es : List (Edge T)) → ((j : ℕ) → j < length es → (get_or es j no_edge).child < id) → count_by (λ e. lies row e v) es ≡ 1 → chosen row v es < id
 chosen_below row v id [] falls one = absurd (omega arith)
 chosen_below row v id (e ∷ es) falls one =
     elim (cases_Bool (lies row e v)) [

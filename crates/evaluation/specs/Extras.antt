@@ -1,10 +1,11 @@
 -- What may be said when only names, and perhaps releases of Python, are known.
 use Rattle.std.specs.Prelude.{◌≡◌, ℕ, zero, suc, ◌<◌, Bool, true, false, cond, ◌&&◌, ◌||◌, List, length, Some, None, Ok, Err, Option, Result, slice_index_or}
 use Rattle.std.specs.Ordering.{is_eq}
-use Rattle.values.specs.Lists.{any}
+use Rattle.std.specs.List.{list_any}
 use Rattle.values.specs.Rows.{by_row}
 use Rattle.values.specs.Releases.{release_row}
 use Rattle.values.specs.Texts.{text_bytes}
+use Rattle.values.specs.Faults.{unless_refused}
 use Rattle.values.specs.declared.faults.Fault.{Fault}
 use Rattle.values.specs.declared.faults.Fault.TheVariants.{UnknownId}
 use Rattle.values.specs.declared.keys.MarkerValueVersion.{MarkerValueVersion}
@@ -27,14 +28,14 @@ abbrev pub counts : Option (List Release) → MarkerValueVersion → Edge Releas
 counts None k e = true
 counts (Some rs) ImplementationVersion e = true
 counts (Some rs) PythonFullVersion e = true
-counts (Some rs) PythonVersion e = any (λ r. lies release_row e (release_row r)) rs
+counts (Some rs) PythonVersion e = list_any (λ r. lies release_row e (release_row r)) rs
 
 -- a view may say yes, where `says` tells what its children may say: any child, or the child of an extra that fits
 abbrev pub may_say : List Text → Option (List Release) → (ℕ → Bool) → View → Bool
 may_say names rs says always = true
 may_say names rs says never = false
-may_say names rs says (version k es) = any (λ e. counts rs k e && says e.child) es
-may_say names rs says (string k es) = any (λ e. says e.child) es
+may_say names rs says (version k es) = list_any (λ e. counts rs k e && says e.child) es
+may_say names rs says (string k es) = list_any (λ e. says e.child) es
 may_say names rs says (in_literal k t high low) = says high || says low
 may_say names rs says (has_literal k t high low) = says high || says low
 may_say names rs says (extra t high low) = says (cond (among names (text_bytes t)) high low)
@@ -52,11 +53,6 @@ extras_by (suc f) names rs t id = on_result names rs (extras_by f names rs t) (v
 -- WHAT AN ID MAY SAY
 unfoldable pub extras : List Text → Option (List Release) → Table → ℕ → Bool
 extras names rs t id = extras_by (suc id) names rs t id
-
--- the answer, unless something is refused
-abbrev pub unless_refused : {A : Type 0} → Option Fault → A → Result A Fault
-unless_refused None b = Ok b
-unless_refused (Some f) b = Err f
 
 -- THE ANSWER: 14, then 16, then what the root may say
 abbrev pub extras_answer : List Text → Option (List Release) → Table → ℕ → Result Bool Fault
@@ -78,7 +74,7 @@ pub data Possible (names : List Text) (rs : Option (List Release)) (t : Table) :
 -- releases have one that equals the host's `python_version`
 abbrev pub includes : Meaning → Option (List Release) → Bool
 includes m None = true
-includes m (Some rs) = any (λ r. is_eq (by_row (release_row r) (release_row (m.release PythonVersion)))) rs
+includes m (Some rs) = list_any (λ r. is_eq (by_row (release_row r) (release_row (m.release PythonVersion)))) rs
 
 -- THE LAW of the two evaluations of extras, of an admitted table
 pub record ExtrasLaw (t : Table) : Type 0 where

@@ -19,21 +19,16 @@ use hosts::reporters::Reporter;
 use hosts::warnings::{MarkerWarningKind, Report};
 use ranges::edges::Edge;
 use ranges::points::{HostText, Point};
-use std::ops::ControlFlow;
-use values::bounds::Bound;
+use std::ops::{Bound, ControlFlow};
 use values::faults::Fault;
 use values::keys::MarkerValueString;
-use values::orders::Order;
 use values::texts::Text;
 
 // Whether a range is one value.
 fn is_single(lower: &Bound<Text>, upper: &Bound<Text>) -> bool
     ensures { result ≡ single lower.now upper.now }
 {
-    match (lower, upper) {
-        (Bound::Included(x), Bound::Included(y)) => x.compare(y).is_eq(),
-        _ => false,
-    }
+    matches!((lower, upper), (Bound::Included(x), Bound::Included(y)) if x == y)
 }
 
 // Reports a bound that has a value.

@@ -1,6 +1,8 @@
 ghost use Rattle.std.specs.Prelude.{◌≡◌, ◌&&◌, map, Some, None};
 ghost use Rattle.std.specs.Option.{option_copied};
-ghost use Rattle.values.specs.Lists.{any};
+ghost use Rattle.std.specs.List.{list_any};
+ghost use Rattle.values.specs.Releases.{release_row};
+ghost use Rattle.ranges.specs.Bounds.{lies};
 ghost use Rattle.diagrams.specs.Held.{table_of};
 ghost use Rattle.diagrams.specs.Ids.{turned};
 ghost use Rattle.diagrams.specs.Views.{shown_kind, seen, view};
@@ -21,6 +23,13 @@ use values::texts::Text;
 
 // As many ids as the largest diagram has, TRUE and FALSE included.
 const MOST_IDS: usize = 8194;
+
+// Whether some release lies in an edge's range.
+fn any_inside(edge: &Edge<Release>, releases: &[Release]) -> bool
+    ensures { result ≡ list_any (λ v. lies release_row edge.now (release_row v)) releases.now }
+{
+    releases.iter().any(|release| edge.contains(release))
+}
 
 // What is asked, the extras that are active and the releases of Python where they are known, and what the ids that are
 // settled may say.
@@ -44,23 +53,21 @@ impl Asked<'_> {
         ensures { result ≡ does_count (option_copied self.now.releases) key edge.now }
     {
         match (self.releases, key) {
-            (Some(releases), MarkerValueVersion::PythonVersion) => releases
-                .iter()
-                .any(|release| edge.contains(release)),
+            (Some(releases), MarkerValueVersion::PythonVersion) => any_inside(edge, releases),
             _ => true,
         }
     }
 
     // Whether an edge of a release node that counts leads to a yes.
     fn any_version(&self, tree: &VersionMarkerTree) -> bool
-        ensures { result ≡ any (λ e. does_count (option_copied self.now.releases) tree.now.key e && settled self.now e.child) (map (seen tree.now.id.0) tree.now.edges.now) }
+        ensures { result ≡ list_any (λ e. does_count (option_copied self.now.releases) tree.now.key e && settled self.now e.child) (map (seen tree.now.id.0) tree.now.edges.now) }
     {
         tree.edges.iter().any(|edge| self.counts(tree.key, edge) && self.says(tree.child(edge)))
     }
 
     // Whether an edge of a text node leads to a yes.
     fn any_string(&self, tree: &StringMarkerTree) -> bool
-        ensures { result ≡ any (λ e. settled self.now e.child) (map (seen tree.now.id.0) tree.now.edges.now) }
+        ensures { result ≡ list_any (λ e. settled self.now e.child) (map (seen tree.now.id.0) tree.now.edges.now) }
     {
         tree.edges.iter().any(|edge| self.says(tree.child(edge)))
     }
@@ -84,8 +91,8 @@ impl Asked<'_> {
             MarkerTreeKind::False => false,
             MarkerTreeKind::Version(tree) => self.any_version(tree),
             MarkerTreeKind::String(tree) => self.any_string(tree),
-            MarkerTreeKind::In(tree) => self.says(tree.high) || self.says(tree.low),
-            MarkerTreeKind::Contains(tree) => self.says(tree.high) || self.says(tree.low),
+            MarkerTreeKind::In(tree) | MarkerTreeKind::Contains(tree) => self.says(tree.high)
+                || self.says(tree.low),
             MarkerTreeKind::Extra(tree) => {
                 let high = self.is_named(&tree.name);
                 self.says(if high { tree.high } else { tree.low })

@@ -51,7 +51,7 @@ le_less v x y p q = elim (cases_order (by_row v x)) [
 ]
 
 -- one element more is counted
-counted : {X : Type 0} (p : X → Bool) (x : X) (xs : List X) → count_by p (x ∷ xs) ≡ cond (p x) 1 0 + count_by p xs
+pub counted : {X : Type 0} (p : X → Bool) (x : X) (xs : List X) → count_by p (x ∷ xs) ≡ cond (p x) 1 0 + count_by p xs
 counted p x xs = sum_by-cons (λ y. cond (p y) 1 0) x xs
 
 module _ {T : Type 0} (row : T → Row) (v : Row) where
