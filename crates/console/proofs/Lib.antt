@@ -1,5 +1,5 @@
-mod Numbers
-mod Cutting
+pub mod Numerals
+pub mod Cutting
 mod Readings
 mod Pairs
 mod Bounding

@@ -5,4 +5,5 @@ pub mod Reading
 pub mod Making
 pub mod Nodes
 pub mod Rows
+pub mod Entering
 pub mod Left

@@ -1,13 +1,13 @@
 -- The words of a line, and what the next one writes.
 use Rattle.std.specs.Prelude.{ℕ, ◌≤◌, List, [], ◌∷◌}
-use Rattle.std.specs.Option.{option_map}
+use Rattle.std.specs.Option.{option_copied}
 use Rattle.console.specs.Cuts.{pieces_left}
 use Rattle.console.specs.Spelling.{Decimal}
 use Rattle.console.specs.declared.words.Words.{Words}
 
 -- the words that are not read yet
 abbrev pub words_left : Words → List (List ℕ)
-words_left words = pieces_left words.pieces.mark (option_map (λ x. x.now) words.pieces.rest)
+words_left words = pieces_left words.pieces.mark (option_copied words.pieces.rest)
 
 -- there is a next word, and P holds of it
 abbrev pub Next : (List ℕ → Type 0) → List (List ℕ) → Type 0

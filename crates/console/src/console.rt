@@ -6,24 +6,24 @@ use crate::command::Command;
 use crate::host_command::{HostCommand, HostWords, OverlayWords};
 use crate::question::{PythonQuestion, Question};
 use crate::script::{Script, is_silent};
-use crate::show::Shown;
+use crate::show::{Show, Shown};
 use crate::station::{Overlays, Station};
 use crate::stop::Stop;
-use crate::table::{Table, append};
-use crate::table_command::{NodeWords, TableCommand, make_edge};
-use crate::telling::{tell_answer, tell_evaluation};
-use crate::words::{ReleaseWord, TextWord, Unread, Written, make_all};
+use crate::table::Table;
+use crate::table_command::{RowWords, TableCommand};
+use crate::telling::Teller;
+use crate::words::{TextWord, Unread, Written, make_all};
 use diagrams::ids::NodeId;
 use evaluation::extras::{evaluate_extras, evaluate_extras_and_python_version};
-use ranges::edges::Edge;
 use std::alloc::{AllocError, Global};
+use std::fmt::Display;
 use std::io;
-use std::io::{BufWriter, Stdout, Write};
+use std::io::{BufWriter, Stdout};
 
 #[derive(Drop)]
 pub(crate) struct Console {
     heap: Global,
-    out: BufWriter<Stdout>,
+    teller: Teller,
     table: Table,
     station: Station,
 }
@@ -32,28 +32,23 @@ impl Console {
     pub(crate) fn new(heap: Global, out: BufWriter<Stdout>) -> Console {
         Console {
             heap,
-            out,
+            teller: Teller::new(heap, out),
             table: Table::new(heap),
             station: Station::new(heap),
         }
     }
 
-    // Answers the commands of a script.
+    // Answers the commands of a script, and prints what is still held back.
     pub(crate) fn run(&mut self, script: &mut Script) -> io::Result<()> {
         while let Some(command) = self.next_command(script)? {
             match self.answer(command) {
                 Ok(()) => {}
-                Err(Stop::Refused(fault)) => writeln!(self.out, "{}", Shown(&fault))?,
-                Err(Stop::NotNow) => writeln!(self.out, "not-now")?,
+                Err(Stop::Refused(fault)) => self.teller.tell(Shown(&fault))?,
+                Err(Stop::NotNow) => self.teller.tell("not-now")?,
                 Err(Stop::Failed(error)) => return Err(error),
             }
         }
-        Ok(())
-    }
-
-    // Prints what is still held back.
-    pub(crate) fn finish(&mut self) -> io::Result<()> {
-        self.out.flush()
+        self.teller.finish()
     }
 
     // The next command that can be read. Lines that cannot be read are answered on the way.
@@ -66,11 +61,10 @@ impl Console {
             }
             match Command::read(self.heap, line) {
                 Ok(command) => return Ok(Some(command)),
-                Err(Unread::Malformed) => writeln!(
-                    self.out,
-                    "unreadable {}",
-                    script.line_number()
-                )?,
+                Err(Unread::Malformed) => {
+                    let number = script.line_number();
+                    self.teller.tell(format_args!("unreadable {number}"))?
+                }
                 Err(Unread::NoMemory) => return Err(AllocError.into()),
             }
         }
@@ -87,11 +81,9 @@ impl Console {
 
     fn answer_table(&mut self, command: TableCommand) -> Result<(), Stop> {
         match command {
-            TableCommand::Release(word) => self.release(&word),
-            TableCommand::Text(word) => self.text(&word),
-            TableCommand::Node(words) => self.node(&words),
-            TableCommand::ReleaseEdge(words) => self.release_edge(&words),
-            TableCommand::TextEdge(words) => self.text_edge(&words),
+            TableCommand::Release(word) => self.value("release", &word),
+            TableCommand::Text(word) => self.value("text", &word),
+            TableCommand::Row(words) => self.row(&words),
             TableCommand::Clear => self.clear(),
             TableCommand::Admit => self.admit(),
             TableCommand::Negate(id) => self.negate(id),
@@ -117,35 +109,21 @@ impl Console {
         }
     }
 
-    fn say(&mut self, line: &str) -> Result<(), Stop> {
-        writeln!(self.out, "{line}")?;
-        Ok(())
+    fn say<L: Display + Drop>(&mut self, line: L) -> Result<(), Stop> {
+        Ok(self.teller.tell(line)?)
     }
 
-    fn release(&mut self, word: &ReleaseWord) -> Result<(), Stop> {
-        let release = word.make()?;
-        writeln!(self.out, "release {}", Shown(&release))?;
-        Ok(())
+    // The value of a word, told behind the name of its kind.
+    fn value<V: Written>(&mut self, name: &str, word: &V) -> Result<(), Stop>
+    where
+        V::Value: Show,
+    {
+        let value = word.make()?;
+        self.say(format_args!("{name} {}", Shown(&value)))
     }
 
-    fn text(&mut self, word: &TextWord) -> Result<(), Stop> {
-        let text = word.make()?;
-        writeln!(self.out, "text {}", Shown(&text))?;
-        Ok(())
-    }
-
-    fn node(&mut self, words: &NodeWords) -> Result<(), Stop> {
-        append(&mut self.table.nodes, words.make())?;
-        self.say("ok")
-    }
-
-    fn release_edge(&mut self, words: &Edge<ReleaseWord>) -> Result<(), Stop> {
-        append(&mut self.table.releases, make_edge(words))?;
-        self.say("ok")
-    }
-
-    fn text_edge(&mut self, words: &Edge<TextWord>) -> Result<(), Stop> {
-        append(&mut self.table.texts, make_edge(words))?;
+    fn row(&mut self, words: &RowWords) -> Result<(), Stop> {
+        self.table.enter(words)?;
         self.say("ok")
     }
 
@@ -162,16 +140,14 @@ impl Console {
 
     fn negate(&mut self, id: NodeId) -> Result<(), Stop> {
         let negation = id.negate().0;
-        writeln!(self.out, "id {negation}")?;
-        Ok(())
+        self.say(format_args!("id {negation}"))
     }
 
     fn kind(&mut self, id: NodeId) -> Result<(), Stop> {
         let (diagram, admitted) = self.table.admit();
         admitted?;
         let kind = diagram.kind(id)?;
-        writeln!(self.out, "{}", Shown(&kind))?;
-        Ok(())
+        Ok(self.teller.tell(Shown(&kind))?)
     }
 
     fn host(&mut self, words: HostWords) -> Result<(), Stop> {
@@ -204,17 +180,17 @@ impl Console {
         let (diagram, admitted) = self.table.admit();
         admitted?;
         let record = self.station.record()?;
-        let out = &mut self.out;
+        let teller = &mut self.teller;
         match self.station.overlays() {
-            Overlays::None => tell_evaluation(out, self.heap, &diagram, root, &record, places),
+            Overlays::None => teller.tell_evaluation(&diagram, root, &record, places),
             Overlays::One(only) => {
                 let host = only.over(&record);
-                tell_evaluation(out, self.heap, &diagram, root, &host, places)
+                teller.tell_evaluation(&diagram, root, &host, places)
             }
             Overlays::Two(below, top) => {
                 let host = below.over(&record);
                 let host = top.over(&host);
-                tell_evaluation(out, self.heap, &diagram, root, &host, places)
+                teller.tell_evaluation(&diagram, root, &host, places)
             }
         }
     }
@@ -223,7 +199,8 @@ impl Console {
         let (diagram, admitted) = self.table.admit();
         admitted?;
         let names = make_all(self.heap, words)?;
-        tell_answer(&mut self.out, evaluate_extras(&diagram, root, &names)?)
+        let answer = evaluate_extras(&diagram, root, &names)?;
+        self.say(Shown(&answer))
     }
 
     fn extras_python(&mut self, question: &PythonQuestion) -> Result<(), Stop> {
@@ -233,6 +210,6 @@ impl Console {
         let names = make_all(self.heap, &question.names)?;
         let root = question.root;
         let answer = evaluate_extras_and_python_version(&diagram, root, &names, &releases)?;
-        tell_answer(&mut self.out, answer)
+        self.say(Shown(&answer))
     }
 }

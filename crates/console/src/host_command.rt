@@ -1,5 +1,6 @@
 // The commands about the host, as a line writes them.
 use crate::words::{ReleaseWord, TextWord, Unread, Words, Written};
+use std::alloc::Global;
 use values::faults::Fault;
 use values::keys::MarkerValueVersion;
 use values::releases::Release;
@@ -59,6 +60,13 @@ pub(crate) struct PythonWords {
 }
 
 impl ImplementationWords {
+    fn new(heap: Global) -> ImplementationWords {
+        ImplementationWords {
+            name: TextWord::new(heap),
+            version: ReleaseWord::new(heap),
+        }
+    }
+
     fn read(words: &mut Words) -> Result<ImplementationWords, Unread> {
         Ok(ImplementationWords {
             name: words.value()?,
@@ -68,6 +76,17 @@ impl ImplementationWords {
 }
 
 impl PlatformWords {
+    fn new(heap: Global) -> PlatformWords {
+        PlatformWords {
+            os_name: TextWord::new(heap),
+            machine: TextWord::new(heap),
+            python_implementation: TextWord::new(heap),
+            release: TextWord::new(heap),
+            system: TextWord::new(heap),
+            version: TextWord::new(heap),
+        }
+    }
+
     fn read(words: &mut Words) -> Result<PlatformWords, Unread> {
         Ok(PlatformWords {
             os_name: words.value()?,
@@ -81,6 +100,14 @@ impl PlatformWords {
 }
 
 impl PythonWords {
+    fn new(heap: Global) -> PythonWords {
+        PythonWords {
+            full_version: ReleaseWord::new(heap),
+            version: ReleaseWord::new(heap),
+            sys_platform: TextWord::new(heap),
+        }
+    }
+
     fn read(words: &mut Words) -> Result<PythonWords, Unread> {
         Ok(PythonWords {
             full_version: words.value()?,
@@ -91,6 +118,15 @@ impl PythonWords {
 }
 
 impl HostWords {
+    // The words of a host of which nothing is known.
+    pub(crate) fn new(heap: Global) -> HostWords {
+        HostWords {
+            implementation: ImplementationWords::new(heap),
+            platform: PlatformWords::new(heap),
+            python: PythonWords::new(heap),
+        }
+    }
+
     fn read(words: &mut Words) -> Result<HostWords, Unread> {
         Ok(HostWords {
             implementation: ImplementationWords::read(words)?,

@@ -12,6 +12,7 @@ use values::keys::{MarkerValueString, MarkerValueVersion};
 use values::releases::Release;
 use values::texts::Text;
 
+// Printing of the unit's types. `Display` cannot be implemented here for types of other crates.
 pub(crate) trait Show {
     fn show<W: fmt::Write>(&self, f: &mut fmt::Formatter<W>) -> fmt::Result;
 }
@@ -26,6 +27,12 @@ impl<T: Show> Display for Shown<'_, T> {
     }
 }
 
+impl Show for bool {
+    fn show<W: fmt::Write>(&self, f: &mut fmt::Formatter<W>) -> fmt::Result {
+        f.write_str(if *self { "yes" } else { "no" })
+    }
+}
+
 impl Show for Fault {
     fn show<W: fmt::Write>(&self, f: &mut fmt::Formatter<W>) -> fmt::Result {
         let (number, layer) = (self.number(), self.layer());
@@ -36,12 +43,9 @@ impl Show for Fault {
 
 impl Show for Release {
     fn show<W: fmt::Write>(&self, f: &mut fmt::Formatter<W>) -> fmt::Result {
-        for place in 0..self.written() {
-            if place > 0 {
-                f.write_str(".")?;
-            }
-            let number = self.number(place);
-            write!(f, "{number}")?;
+        write!(f, "{}", self.number(0))?;
+        for place in 1..self.written() {
+            write!(f, ".{}", self.number(place))?;
         }
         Ok(())
     }

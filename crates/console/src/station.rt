@@ -1,9 +1,7 @@
 // The station: the host that a script describes, and the overlays over it.
-use crate::host_command::{
-    HostReleases, HostWords, ImplementationWords, OverlayWords, PlatformWords, PythonWords,
-};
+use crate::host_command::{HostReleases, HostWords, OverlayWords};
 use crate::stop::Stop;
-use crate::words::{ReleaseWord, TextWord, Written};
+use crate::words::Written;
 use hosts::hosts::Host;
 use hosts::overlays::Overlay;
 use hosts::records::{Fields, Record};
@@ -37,7 +35,8 @@ impl Fixed {
     }
 }
 
-// The overlays over a host, the newest last.
+// The overlays over a host, the newest last. An overlay over another host is of another type, so no list of overlays
+// can be walked.
 #[derive(Clone, Copy)]
 pub(crate) enum Overlays {
     None,
@@ -53,18 +52,6 @@ pub(crate) struct Station {
     overlays: Overlays,
 }
 
-fn no_text(heap: Global) -> TextWord {
-    TextWord {
-        bytes: Vec::new(heap),
-    }
-}
-
-fn no_release(heap: Global) -> ReleaseWord {
-    ReleaseWord {
-        numbers: Vec::new(heap),
-    }
-}
-
 impl Station {
     // Empty texts, releases `0`, no names and no overlay.
     pub(crate) fn new(heap: Global) -> Station {
@@ -73,7 +60,7 @@ impl Station {
             numbers: [0; 8],
         };
         Station {
-            words: no_words(heap),
+            words: HostWords::new(heap),
             releases: HostReleases {
                 implementation_version: zero,
                 python_full_version: zero,
@@ -137,28 +124,5 @@ impl Station {
     // The record of the fields and the names.
     pub(crate) fn record(&self) -> Result<Record<'_>, Fault> {
         Record::new(&self.fields(), &self.names)
-    }
-}
-
-// The words of a host of which nothing is known.
-fn no_words(heap: Global) -> HostWords {
-    HostWords {
-        implementation: ImplementationWords {
-            name: no_text(heap),
-            version: no_release(heap),
-        },
-        platform: PlatformWords {
-            os_name: no_text(heap),
-            machine: no_text(heap),
-            python_implementation: no_text(heap),
-            release: no_text(heap),
-            system: no_text(heap),
-            version: no_text(heap),
-        },
-        python: PythonWords {
-            full_version: no_release(heap),
-            version: no_release(heap),
-            sys_platform: no_text(heap),
-        },
     }
 }

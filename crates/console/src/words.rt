@@ -1,6 +1,6 @@
 // The words of a line, and the values that they write.
 ghost use Rattle.std.specs.Prelude.{◌≡◌, ℕ, ◌^◌, ◌<◌, List, [], Result, MatchResult};
-ghost use Rattle.std.specs.Option.{SomeIff, option_map};
+ghost use Rattle.std.specs.Option.{SomeIff, option_copied};
 ghost use Rattle.std.specs.Str.Parse.{IsNumeral, digits_value as value_in};
 ghost use Rattle.values.specs.Releases.{made_release};
 ghost use Rattle.values.specs.Texts.{made_text};
@@ -79,10 +79,7 @@ impl<'a> Words<'a> {
         ensures next { MatchResult result (λ word. Next (λ w. w ≡ word.now) (words_left self.old)) (λ _. words_left self.old ≡ []) }
         ensures rest { words_left self.new ≡ behind (words_left self.old) }
     {
-        match self.pieces.next() {
-            Some(word) => Ok(word),
-            None => Err(Unread::Malformed),
-        }
+        self.pieces.next().ok_or(Unread::Malformed)
     }
 
     // Refuses a word too many.
@@ -129,10 +126,7 @@ impl<'a> Words<'a> {
 
     // The number of a release's key.
     pub(crate) fn version_key(&mut self) -> Result<MarkerValueVersion, Unread> {
-        match MarkerValueVersion::from_number(self.byte()?) {
-            Some(key) => Ok(key),
-            None => Err(Unread::Malformed),
-        }
+        MarkerValueVersion::from_number(self.byte()?).ok_or(Unread::Malformed)
     }
 
     pub(crate) fn value<V: Written>(&mut self) -> Result<V, Unread>
@@ -160,7 +154,7 @@ impl<'a> Words<'a> {
 
 // The values that pieces write, one each.
 fn read_all<V: Written>(heap: Global, pieces: &mut Pieces) -> Result<Vec<V>, Unread>
-    ensures { Reads (λ vs. Each V.Written.written (pieces_left pieces.old.mark (option_map (λ x. x.now) pieces.old.rest)) vs.items) result }
+    ensures { Reads (λ vs. Each V.Written.written (pieces_left pieces.old.mark (option_copied pieces.old.rest)) vs.items) result }
 {
     let mut values = Vec::new(heap);
     while let Some(piece) = pieces.next() {
@@ -170,18 +164,15 @@ fn read_all<V: Written>(heap: Global, pieces: &mut Pieces) -> Result<Vec<V>, Unr
 }
 
 // The number that decimal digits write, where it has 64 bits at most.
+#[tactic(auto, using(crate::proofs::Numerals::text_from_numeral))]
 fn decimal(digits: &[u8]) -> Option<u64>
     ensures { SomeIff result (IsNumeral 10 digits.now × (value_in 10 digits.now < 2 ^ 64)) (value_in 10 digits.now) }
 {
-    if digits.is_empty() {
+    // A sign may stand before what `parse` reads, and before no number of a script.
+    if let [b'+', ..] = digits {
         return None;
     }
-    let mut number = 0u64;
-    for byte in digits {
-        let digit = (*byte as char).to_digit(10)?;
-        number = number.checked_mul(10)?.checked_add(digit as u64)?;
-    }
-    Some(number)
+    str::from_utf8(digits).ok()?.parse().ok()
 }
 
 // The value of a hexadecimal digit in lower case.
@@ -240,10 +231,7 @@ impl Written for u64 {
     ghost made = { λ n. Result.Ok n };
 
     fn read(_heap: Global, word: &[u8]) -> Result<u64, Unread> {
-        match decimal(word) {
-            Some(number) => Ok(number),
-            None => Err(Unread::Malformed),
-        }
+        decimal(word).ok_or(Unread::Malformed)
     }
 
     fn make(&self) -> Result<u64, Fault> {
@@ -257,6 +245,16 @@ pub(crate) struct ReleaseWord {
     pub(crate) numbers: Vec<u64>,
 }
 
+impl ReleaseWord {
+    pub(crate) fn new(heap: Global) -> ReleaseWord
+        ensures { result.numbers.items ≡ [] }
+    {
+        ReleaseWord {
+            numbers: Vec::new(heap),
+        }
+    }
+}
+
 impl Written for ReleaseWord {
     type Value = Release;
 
@@ -266,9 +264,7 @@ impl Written for ReleaseWord {
 
     fn read(heap: Global, word: &[u8]) -> Result<ReleaseWord, Unread> {
         if word == b"-".as_slice() {
-            return Ok(ReleaseWord {
-                numbers: Vec::new(heap),
-            });
+            return Ok(ReleaseWord::new(heap));
         }
         Ok(ReleaseWord {
             numbers: read_all(heap, &mut split(word, b'.'))?,
@@ -284,6 +280,16 @@ impl Written for ReleaseWord {
 #[derive(Drop)]
 pub(crate) struct TextWord {
     pub(crate) bytes: Vec<u8>,
+}
+
+impl TextWord {
+    pub(crate) fn new(heap: Global) -> TextWord
+        ensures { result.bytes.items ≡ [] }
+    {
+        TextWord {
+            bytes: Vec::new(heap),
+        }
+    }
 }
 
 impl Written for TextWord {
@@ -337,9 +343,8 @@ impl<V: Written> Written for Bound<V> {
 
 // What words make: the first refusal, or all.
 pub(crate) fn make_all<V: Written>(heap: Global, words: &[V]) -> Result<Vec<V::Value>, Stop> {
-    let mut made = Vec::new(heap);
-    for word in words {
-        made.push(word.make()?)?;
-    }
-    Ok(made)
+    words
+        .iter()
+        .map(|word| -> Result<V::Value, Stop> { Ok(word.make()?) })
+        .try_collect(heap)
 }

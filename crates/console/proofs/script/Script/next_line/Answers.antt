@@ -1,5 +1,5 @@
 use Rattle.std.proofs.Common.{rules}
-use Rattle.std.specs.Option.{option_map}
+use Rattle.std.specs.Option.{option_copied}
 use Rattle.std.proofs.lemmas.List.{nil_from_length}
 use Rattle.console.proofs.script.Script.next_line.Goals as goal
 
@@ -9,4 +9,4 @@ returns-then-is_empty c =
     record { line = (none, none); number = search rules; shorter = search rules }
 
 pub returns : goal.returns
-returns c = record { line = (option_map (λ x. x.now) c.part.result.1, c.part.ensures.cut, search rules); number = search rules; shorter = search rules }
+returns c = record { line = (option_copied c.part.result.1, c.part.ensures.cut, search rules); number = search rules; shorter = search rules }
