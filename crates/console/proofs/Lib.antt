@@ -1,6 +1,5 @@
 pub mod Numerals
 pub mod Cutting
-mod Readings
-mod Pairs
-mod Bounding
-mod Pieces
+pub mod Readings
+pub mod Pairs
+pub mod Pieces
