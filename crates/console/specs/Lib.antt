@@ -6,4 +6,3 @@ pub mod Making
 pub mod Nodes
 pub mod Rows
 pub mod Entering
-pub mod Left

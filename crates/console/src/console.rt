@@ -1,7 +1,4 @@
 // The console: what a script has entered, and the answers to its commands.
-ghost use Rattle.std.specs.Prelude.{◌<◌, ◌≤◌, IfOk, MatchOption};
-ghost use Rattle.console.specs.Left.{left};
-
 use crate::command::Command;
 use crate::host_command::{HostCommand, HostWords, OverlayWords};
 use crate::question::{PythonQuestion, Question};
@@ -39,36 +36,28 @@ impl Console {
     }
 
     // Answers the commands of a script, and prints what is still held back.
-    pub(crate) fn run(&mut self, script: &mut Script) -> io::Result<()> {
-        while let Some(command) = self.next_command(script)? {
-            match self.answer(command) {
-                Ok(()) => {}
-                Err(Stop::Refused(fault)) => self.teller.tell(Shown(&fault))?,
-                Err(Stop::NotNow) => self.teller.tell("not-now")?,
-                Err(Stop::Failed(error)) => return Err(error),
+    pub(crate) fn run(&mut self, script: Script) -> io::Result<()> {
+        for (number, line) in script {
+            if is_silent(line) {
+                continue;
+            }
+            match Command::read(self.heap, line) {
+                Ok(command) => self.obey(command)?,
+                Err(Unread::Malformed) => self.teller.tell(format_args!("unreadable {number}"))?,
+                Err(Unread::NoMemory) => return Err(AllocError.into()),
             }
         }
         self.teller.finish()
     }
 
-    // The next command that can be read. Lines that cannot be read are answered on the way.
-    fn next_command(&mut self, script: &mut Script) -> io::Result<Option<Command>>
-        ensures { IfOk result (λ command. MatchOption command (left script.exit ≤ left script.entry) (λ _. left script.exit < left script.entry)) }
-    {
-        while let Some(line) = script.next_line() {
-            if is_silent(line) {
-                continue;
-            }
-            match Command::read(self.heap, line) {
-                Ok(command) => return Ok(Some(command)),
-                Err(Unread::Malformed) => {
-                    let number = script.line_number();
-                    self.teller.tell(format_args!("unreadable {number}"))?
-                }
-                Err(Unread::NoMemory) => return Err(AllocError.into()),
-            }
+    // Answers a command, or tells why it has no answer.
+    fn obey(&mut self, command: Command) -> io::Result<()> {
+        match self.answer(command) {
+            Ok(()) => Ok(()),
+            Err(Stop::Refused(fault)) => self.teller.tell(Shown(&fault)),
+            Err(Stop::NotNow) => self.teller.tell("not-now"),
+            Err(Stop::Failed(error)) => Err(error),
         }
-        Ok(None)
     }
 
     fn answer(&mut self, command: Command) -> Result<(), Stop> {

@@ -1,6 +1,6 @@
 // A script: its lines, and the pieces of a line.
-ghost use Rattle.std.specs.Prelude.{◌≡◌, ◌+◌, ◌^◌, ◌<◌, ◌≤◌, [], length, is_some, if◌then◌else◌, Decides, Option, MatchOption};
-ghost use Rattle.std.specs.Option.{option_copied};
+ghost use Rattle.std.specs.Prelude.{◌≡◌, ◌+◌, ◌^◌, ◌<◌, ◌≤◌, [], length, Decides, Option, MatchOption};
+ghost use Rattle.std.specs.Option.{option_copied, option_map};
 ghost use Rattle.console.specs.Cuts.{Cut, Line, Gives, unread};
 ghost use Rattle.console.specs.Spelling.{Silent};
 ghost use Rattle.std.specs.Iterator.{at_most};
@@ -23,28 +23,24 @@ impl<'a> Script<'a> {
             lines: 0,
         }
     }
+}
 
-    // The number of the line that was read last, from 1.
-    pub(crate) fn line_number(&self) -> usize
-        ensures { result ≡ self.now.lines }
-    {
-        self.lines
-    }
+// The lines, each with its number from 1 and without its line feed, which the last line may lack.
+impl<'a> Iterator for Script<'a> {
+    type Item = (usize, &'a [u8]);
 
-    // The next line, without its line feed, which the last line may lack.
-    pub(crate) fn next_line(&mut self) -> Option<&'a [u8]>
-        ensures line { Line self.old.rest.now (option_copied result) self.new.rest.now }
-        ensures number { self.new.lines ≡ self.old.lines + (if is_some result then 1 else 0) }
-        ensures shorter { MatchOption result (length self.new.rest.now ≤ length self.old.rest.now) (λ _. length self.new.rest.now < length self.old.rest.now) }
-    {
-        let bytes = self.rest;
-        if bytes.is_empty() {
+    ghost next_gives = { λ s r t. Line s.rest.now (option_map (λ l. l.1.now) r) t.rest.now × MatchOption r (t.lines ≡ s.lines) (λ l. (t.lines ≡ s.lines + 1) × (l.0 ≡ t.lines)) };
+
+    ghost remaining = { λ s. at_most (length s.rest.now) };
+
+    fn next(&mut self) -> Option<(usize, &'a [u8])> {
+        if self.rest.is_empty() {
             return None;
         }
-        let (line, rest) = part(bytes, b'\n');
+        let (line, rest) = part(self.rest, b'\n');
         self.rest = rest.unwrap_or(&[]);
         self.lines += 1;
-        Some(line)
+        Some((self.lines, line))
     }
 }
 

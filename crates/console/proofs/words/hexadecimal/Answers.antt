@@ -1,6 +1,6 @@
 use Rattle.std.proofs.Common.{vec_items, arith, rules}
 use Rattle.std.specs.Slice.Iter.{chunks_exact_rest}
-use Rattle.console.proofs.Pairs.{odd_refused, digit_refused, one_more, all_read}
+use Rattle.console.proofs.Pairs.{digit_refused, one_more}
 use Rattle.console.proofs.words.hexadecimal.Goals as goal
 
 pub returns-in_err-high : goal.returns-in_err-high

@@ -1,4 +1,4 @@
-use Rattle.std.proofs.Common.{◌≡◌, ℕ, List, Ok, Err, Result, Vec, Global, sym, ap, subst, rules}
+use Rattle.std.proofs.Common.{◌≡◌, ℕ, List, Ok, Err, Result, Vec, Global, sym, subst, rules}
 use Rattle.std.specs.Result.{MatchResult, IsOkAnd}
 use Rattle.console.specs.Reading.{Reads}
 use Rattle.console.specs.Spelling.{Decimal, IsListWord, IsReleaseWord}
