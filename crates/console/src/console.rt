@@ -122,8 +122,7 @@ impl Console {
     }
 
     fn admit(&mut self) -> Result<(), Stop> {
-        let (_, admitted) = self.table.admit();
-        admitted?;
+        self.table.admit()?;
         self.say("admitted")
     }
 
@@ -133,8 +132,7 @@ impl Console {
     }
 
     fn kind(&mut self, id: NodeId) -> Result<(), Stop> {
-        let (diagram, admitted) = self.table.admit();
-        admitted?;
+        let diagram = self.table.admit()?;
         let kind = diagram.kind(id)?;
         Ok(self.teller.tell(Shown(&kind))?)
     }
@@ -166,8 +164,7 @@ impl Console {
     }
 
     fn evaluate(&mut self, root: NodeId, places: usize) -> Result<(), Stop> {
-        let (diagram, admitted) = self.table.admit();
-        admitted?;
+        let diagram = self.table.admit()?;
         let record = self.station.record()?;
         let teller = &mut self.teller;
         match self.station.overlays() {
@@ -185,16 +182,14 @@ impl Console {
     }
 
     fn extras(&mut self, root: NodeId, words: &[TextWord]) -> Result<(), Stop> {
-        let (diagram, admitted) = self.table.admit();
-        admitted?;
+        let diagram = self.table.admit()?;
         let names = make_all(self.heap, words)?;
         let answer = evaluate_extras(&diagram, root, &names)?;
         self.say(Shown(&answer))
     }
 
     fn extras_python(&mut self, question: &PythonQuestion) -> Result<(), Stop> {
-        let (diagram, admitted) = self.table.admit();
-        admitted?;
+        let diagram = self.table.admit()?;
         let releases = make_all(self.heap, &question.releases)?;
         let names = make_all(self.heap, &question.names)?;
         let root = question.root;

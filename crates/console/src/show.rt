@@ -12,7 +12,8 @@ use values::keys::{MarkerValueString, MarkerValueVersion};
 use values::releases::Release;
 use values::texts::Text;
 
-// Printing of the unit's types. `Display` cannot be implemented here for types of other crates.
+// Printing of the unit's types. `Display` cannot be implemented here for types of other crates, and for `Shown` of each
+// of them it would need `for<'b> Shown<'b, T>: Display` at a bound, of which no proof is made.
 pub(crate) trait Show {
     fn show<W: fmt::Write>(&self, f: &mut fmt::Formatter<W>) -> fmt::Result;
 }
@@ -43,6 +44,7 @@ impl Show for Fault {
 
 impl Show for Release {
     fn show<W: fmt::Write>(&self, f: &mut fmt::Formatter<W>) -> fmt::Result {
+        // A release gives its numbers by place alone.
         write!(f, "{}", self.number(0))?;
         for place in 1..self.written() {
             write!(f, ".{}", self.number(place))?;

@@ -47,8 +47,11 @@ impl Table {
         }
     }
 
-    pub(crate) fn admit(&self) -> (Diagram<'_>, Result<(), Fault>) {
-        Diagram::admit(&self.nodes, &self.releases, &self.texts)
+    // The diagram of the rows, if they are admitted.
+    pub(crate) fn admit(&self) -> Result<Diagram<'_>, Fault> {
+        let (diagram, admitted) = Diagram::admit(&self.nodes, &self.releases, &self.texts);
+        admitted?;
+        Ok(diagram)
     }
 }
 

@@ -99,7 +99,8 @@ impl<'a> Words<'a> {
         self.value()
     }
 
-    // A number up to 255.
+    // A number up to 255. One reader of every type of number could not say what it refuses: `TryFrom` has no law by which
+    // a value is not both converted and refused.
     #[tactic(auto, using(crate::proofs::Readings::number_refused))]
     pub(crate) fn byte(&mut self) -> Result<u8, Unread>
         ensures { ReadsNext (Number 255) self.old result }
