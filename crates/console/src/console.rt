@@ -1,6 +1,6 @@
 // The console: what a script has entered, and the answers to its commands.
 use crate::command::Command;
-use crate::host_command::{HostCommand, HostWords, OverlayWords};
+use crate::host_command::{Fixed, HostCommand, HostWords};
 use crate::question::{PythonQuestion, Question};
 use crate::script::{Script, is_silent};
 use crate::show::{Show, Shown};
@@ -9,7 +9,7 @@ use crate::stop::Stop;
 use crate::table::Table;
 use crate::table_command::{RowWords, TableCommand};
 use crate::telling::Teller;
-use crate::words::{TextWord, Unread, Written, make_all};
+use crate::words::{ReleaseWord, TextWord, Unread, Written, make_all};
 use diagrams::ids::NodeId;
 use evaluation::extras::{evaluate_extras, evaluate_extras_and_python_version};
 use std::alloc::{AllocError, Global};
@@ -153,7 +153,7 @@ impl Console {
         self.say("record")
     }
 
-    fn overlay(&mut self, words: &OverlayWords) -> Result<(), Stop> {
+    fn overlay(&mut self, words: &Fixed<ReleaseWord>) -> Result<(), Stop> {
         self.station.put_over(words)?;
         self.say("ok")
     }

@@ -10,7 +10,7 @@ pub(crate) enum HostCommand {
     Host(HostWords),
     Names(Vec<TextWord>),
     Record,
-    Overlay(OverlayWords),
+    Overlay(Fixed<ReleaseWord>),
     Bare,
 }
 
@@ -21,7 +21,7 @@ impl HostCommand {
             b"host" => HostCommand::Host(HostWords::read(words)?),
             b"names" => HostCommand::Names(words.values()?),
             b"record" => HostCommand::Record,
-            b"overlay" => HostCommand::Overlay(OverlayWords::read(words)?),
+            b"overlay" => HostCommand::Overlay(Fixed::read(words)?),
             b"bare" => HostCommand::Bare,
             _ => return Ok(None),
         }))
@@ -152,17 +152,25 @@ pub(crate) struct HostReleases {
     pub(crate) python_version: Release,
 }
 
-#[derive(Drop)]
-pub(crate) struct OverlayWords {
+// The release of a key that an overlay fixes, as a word writes it or made.
+#[derive(Clone, Copy)]
+pub(crate) struct Fixed<R> {
     pub(crate) key: MarkerValueVersion,
-    pub(crate) release: ReleaseWord,
+    pub(crate) release: R,
 }
 
-impl OverlayWords {
-    fn read(words: &mut Words) -> Result<OverlayWords, Unread> {
-        Ok(OverlayWords {
+impl Fixed<ReleaseWord> {
+    fn read(words: &mut Words) -> Result<Fixed<ReleaseWord>, Unread> {
+        Ok(Fixed {
             key: words.version_key()?,
             release: words.value()?,
+        })
+    }
+
+    pub(crate) fn make(&self) -> Result<Fixed<Release>, Fault> {
+        Ok(Fixed {
+            key: self.key,
+            release: self.release.make()?,
         })
     }
 }

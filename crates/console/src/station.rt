@@ -1,31 +1,16 @@
 // The station: the host that a script describes, and the overlays over it.
-use crate::host_command::{HostReleases, HostWords, OverlayWords};
+use crate::host_command::{Fixed, HostReleases, HostWords};
 use crate::stop::Stop;
-use crate::words::Written;
+use crate::words::ReleaseWord;
 use hosts::hosts::Host;
 use hosts::overlays::Overlay;
 use hosts::records::{Fields, Record};
 use std::alloc::Global;
 use values::faults::Fault;
-use values::keys::MarkerValueVersion;
 use values::releases::Release;
 use values::texts::Text;
 
-// The release of a key that an overlay fixes.
-#[derive(Clone, Copy)]
-pub(crate) struct Fixed {
-    key: MarkerValueVersion,
-    release: Release,
-}
-
-impl Fixed {
-    fn make(words: &OverlayWords) -> Result<Fixed, Fault> {
-        Ok(Fixed {
-            key: words.key,
-            release: words.release.make()?,
-        })
-    }
-
+impl Fixed<Release> {
     pub(crate) fn over<H: Host>(self, below: &H) -> Overlay<'_, H> {
         Overlay {
             below,
@@ -40,8 +25,8 @@ impl Fixed {
 #[derive(Clone, Copy)]
 pub(crate) enum Overlays {
     None,
-    One(Fixed),
-    Two(Fixed, Fixed),
+    One(Fixed<Release>),
+    Two(Fixed<Release>, Fixed<Release>),
 }
 
 #[derive(Drop)]
@@ -83,10 +68,10 @@ impl Station {
     }
 
     // Puts one more overlay on top, where there are fewer than two.
-    pub(crate) fn put_over(&mut self, words: &OverlayWords) -> Result<(), Stop> {
+    pub(crate) fn put_over(&mut self, words: &Fixed<ReleaseWord>) -> Result<(), Stop> {
         self.overlays = match self.overlays {
-            Overlays::None => Overlays::One(Fixed::make(words)?),
-            Overlays::One(below) => Overlays::Two(below, Fixed::make(words)?),
+            Overlays::None => Overlays::One(words.make()?),
+            Overlays::One(below) => Overlays::Two(below, words.make()?),
             Overlays::Two(_, _) => return Err(Stop::NotNow),
         };
         Ok(())
