@@ -1,22 +1,8 @@
 -- Bytes are cut at the first mark, and so piece by piece.
-use Rattle.std.proofs.Common.{◌≡◌, ℕ, suc, ◌+◌, ◌-◌, ◌<◌, ◌≤◌, false, eqb, List, [], ◌∷◌, ◌++◌, length, get_or, take, drop, Some, None, Option, sym, refl, ◌∙◌, inl, inr, arith, eq-eqb, ne_eqb}
+use Rattle.std.proofs.Common.{◌≡◌, ℕ, suc, false, eqb, List, [], ◌∷◌, ◌++◌, Some, None, Option, refl, inl, inr, arith, eq-eqb, ne_eqb}
 use Rattle.std.specs.Str.Iter.{LacksByte}
 use Rattle.std.proofs.lemmas.Bool.{cases_Bool}
-use Rattle.std.proofs.lemmas.List.{take-append-drop, drop_more, take_rest, get_or-take, length-take-le, length-drop}
 use Rattle.console.specs.Cuts.{Cut, onto_first, pieces, pieces_left}
-
-module _ (mark : ℕ) (bytes : List ℕ) (i : ℕ) (h : i < length bytes) where
-  pub cut_here : get_or bytes i 0 ≡ mark → ((k : ℕ) → k < i → get_or bytes k 0 ≡ mark → ⊥) → Cut mark bytes (take (i - 0) bytes) (Some (take (length bytes - (i + 1)) (drop (i + 1) bytes)))
-  cut_here e before =
-      let z : i - 0 ≡ i = omega arith in
-      let le : i ≤ length bytes = omega arith in
-      record {
-        whole = rw (z, take_rest bytes (i + 1), ← e, ← drop_more bytes i 0 h) (sym (take-append-drop i bytes));
-        clear = rw z (λ k l m. let lt : k < i = omega (arith, length-take-le i bytes le) in before k lt (sym (get_or-take i bytes k 0 lt) ∙ m));
-      }
-
-  pub shorter_here : suc (length (take (length bytes - (i + 1)) (drop (i + 1) bytes))) ≤ length bytes
-  shorter_here = rw (take_rest bytes (i + 1)) (omega (arith, length-drop (i + 1) bytes))
 
 -- the mark does not stand behind the first byte either
 behind : (mark b : ℕ) (bs : List ℕ) → LacksByte mark (b ∷ bs) → LacksByte mark bs

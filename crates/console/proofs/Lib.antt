@@ -1,6 +1,5 @@
-mod Numbers
-mod Cutting
-mod Readings
-mod Pairs
-mod Bounding
-mod Pieces
+pub mod Numerals
+pub mod Cutting
+pub mod Readings
+pub mod Pairs
+pub mod Pieces

@@ -1,12 +1,16 @@
 -- A value for each piece, read piece by piece.
-use Rattle.std.proofs.Common.{◌≡◌, ℕ, List, [], ◌∷◌, ◌++◌, None, Some, Option, sym, refl, ap, ◌∙◌}
-use Rattle.std.proofs.lemmas.List.{append-nil, append_assoc}
+use Rattle.std.proofs.Common.{◌≡◌, ℕ, List, [], ◌∷◌, ◌++◌, Some, Ok, Err, Result, Vec, Global, sym, ap, ◌∙◌, subst, inr, ⊎_elim}
+use Rattle.std.specs.Option.{option_copied}
+use Rattle.std.specs.Result.{IsErrAnd}
+use Rattle.std.proofs.lemmas.List.{append_assoc}
 use Rattle.console.specs.Cuts.{Gives, pieces, pieces_left}
-use Rattle.console.specs.Spelling.{Decimal, Decimals, Each}
-
--- all pieces of bytes that are split at a mark
-pub split_left : (m mark : ℕ) (rest : Option (List ℕ)) (bytes : List ℕ) → mark ≡ m → rest ≡ Some bytes → pieces_left mark rest ≡ pieces m bytes
-split_left m mark rest bytes e f = ap (λ k. pieces_left k rest) e ∙ ap (pieces_left m) f
+use Rattle.console.specs.Reading.{Reads}
+use Rattle.console.specs.Spelling.{Each, IsListWord}
+use Rattle.console.specs.Words.{left_in}
+use Rattle.console.specs.declared.script.Pieces.{Pieces}
+use Rattle.console.specs.declared.words.Unread.{Unread}
+use Rattle.console.specs.declared.words.Unread.TheVariants.{Malformed, NoMemory}
+use Rattle.console.proofs.Readings.{refused_on}
 
 module _ {V : Type 0} (written : List ℕ → V → Type 0) where
   -- the pieces before those that are left write the values so far
@@ -25,36 +29,26 @@ module _ {V : Type 0} (written : List ℕ → V → Type 0) where
   each_at (q ∷ ps) qs p [] h = absurd h
   each_at (q ∷ ps) qs p (v ∷ vs) h = each_at ps qs p vs h.1
 
-  module _ (all : List (List ℕ)) (vs : List V) where
-    pub values_begun : vs ≡ [] → ValuesSoFar all all vs
-    values_begun e = ([], refl, rw e tt)
+  -- the next piece is read
+  module _ (all : List (List ℕ)) (vs : List V) (before after : Pieces) (piece : List ℕ) (next : Gives before.mark (option_copied before.rest) (Some piece) (option_copied after.rest)) (same : after.mark ≡ before.mark) (s : ValuesSoFar all (left_in before) vs) where
+    cut : all ≡ s.0 ++ (piece ∷ left_in after)
+    cut = s.1 ∙ ap (λ l. s.0 ++ l) (next ∙ ap (λ m. piece ∷ pieces_left m (option_copied after.rest)) (sym same))
 
-    -- no piece is left
-    pub values_all : (mark : ℕ) (before after : Option (List ℕ)) → Gives mark before None after → ValuesSoFar all (pieces_left mark before) vs → Each written all vs
-    values_all mark before after over s =
-        let same : all ≡ s.0 = s.1 ∙ ap (λ l. s.0 ++ l) (ap (pieces_left mark) over.0) ∙ append-nil s.0 in
-        rw same s.2
+    pub value_more : (v : V) (ws : List V) → written piece v → ws ≡ vs ++ (v ∷ []) → ValuesSoFar all (left_in after) ws
+    value_more v ws w e = (s.0 ++ (piece ∷ []), cut ∙ sym (append_assoc s.0 (piece ∷ []) (left_in after)), rw e (each_push s.0 vs piece v s.2 w))
 
-    -- the next piece is read
-    module _ (mark : ℕ) (before after : Option (List ℕ)) (piece : List ℕ) (next : Gives mark before (Some piece) after) (s : ValuesSoFar all (pieces_left mark before) vs) where
-      cut : all ≡ s.0 ++ (piece ∷ pieces_left mark after)
-      cut = s.1 ∙ ap (λ l. s.0 ++ l) next
+    -- it writes no value, and so the pieces do not write one each
+    pub piece_refused : (r : Result (Vec V Global) Unread) (e : Unread) → IsErrAnd r (λ d. d ≡ e) → Reads (written piece) (Err e) → Reads (λ ws. Each written all ws.items) r
+    piece_refused r e is h = refused_on (written piece) _ r e is h (λ none ws w. let d = each_at s.0 (left_in after) piece ws.items (rw cut at w) in none d.0 d.1)
 
-      pub value_more : (to : ℕ) → to ≡ mark → (v : V) (ws : List V) → written piece v → ws ≡ vs ++ (v ∷ []) → ValuesSoFar all (pieces_left to after) ws
-      value_more to same v ws w e = (s.0 ++ (piece ∷ []), cut ∙ sym (append_assoc s.0 (piece ∷ []) (pieces_left mark after)) ∙ ap (λ m. (s.0 ++ (piece ∷ [])) ++ pieces_left m after) (sym same), rw e (each_push s.0 vs piece v s.2 w))
+-- the values of pieces with a mark between two
+pub list_read : {V : Type 0} (written : List ℕ → V → Type 0) (mark : ℕ) (word : List ℕ) (split : Pieces) (r : Result (Vec V Global) Unread) → (word ≡ 45 ∷ [] → ⊥) → option_copied split.rest ≡ Some word → split.mark ≡ mark → Reads (λ vs. Each written (left_in split) vs.items) r → Reads (λ vs. IsListWord written mark word vs.items) r
+list_read {V} written mark word split r no_dash whole same h = of_pieces r (subst (λ ps. Reads (λ vs. Each written ps vs.items) r) all h)
+  where
+    all : left_in split ≡ pieces mark word
+    all = ap (λ m. pieces_left m (option_copied split.rest)) same ∙ ap (pieces_left mark) whole
 
-      pub no_value : ((v : V) → written piece v → ⊥) → (ws : List V) → Each written all ws → ⊥
-      no_value none ws h = let d = each_at s.0 (pieces_left mark after) piece ws (rw cut at h) in none d.0 d.1
-
--- the numbers of a release are values like others
-pub decimals_of : (ps : List (List ℕ)) (ns : List ℕ) → Each (λ p n. Decimal p n) ps ns → Decimals ps ns
-decimals_of [] [] h = h
-decimals_of [] (n ∷ ns) h = h
-decimals_of (p ∷ ps) [] h = h
-decimals_of (p ∷ ps) (n ∷ ns) h = (h.0, decimals_of ps ns h.1)
-
-pub of_decimals : (ps : List (List ℕ)) (ns : List ℕ) → Decimals ps ns → Each (λ p n. Decimal p n) ps ns
-of_decimals [] [] h = h
-of_decimals [] (n ∷ ns) h = h
-of_decimals (p ∷ ps) [] h = h
-of_decimals (p ∷ ps) (n ∷ ns) h = (h.0, of_decimals ps ns h.1)
+    of_pieces : (q : Result (Vec V Global) Unread) → Reads (λ vs. Each written (pieces mark word) vs.items) q → Reads (λ vs. IsListWord written mark word vs.items) q
+    of_pieces (Ok vs) k = inr k
+    of_pieces (Err Malformed) k = λ vs l. ⊎_elim (λ dash. no_dash dash.0) (k vs) l
+    of_pieces (Err NoMemory) k = tt

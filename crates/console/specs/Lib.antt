@@ -5,4 +5,4 @@ pub mod Reading
 pub mod Making
 pub mod Nodes
 pub mod Rows
-pub mod Left
+pub mod Entering

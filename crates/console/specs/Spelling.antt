@@ -21,13 +21,6 @@ Silent line = Comment line ⊎ Blank line
 abbrev pub Decimal : List ℕ → ℕ → Type 0
 Decimal digits n = (IsNumeral 10 digits × (digits_value 10 digits < 2 ^ 64)) × (n ≡ digits_value 10 digits)
 
--- the numbers that decimal digits write, piece by piece
-abbrev pub Decimals : List (List ℕ) → List ℕ → Type 0
-Decimals [] [] = Unit {0}
-Decimals [] (n ∷ ns) = ⊥
-Decimals (p ∷ ps) [] = ⊥
-Decimals (p ∷ ps) (n ∷ ns) = Decimal p n × Decimals ps ns
-
 -- words write values, one each
 abbrev pub Each : {W V : Type 0} → (W → V → Type 0) → List W → List V → Type 0
 Each written [] [] = Unit {0}
@@ -35,9 +28,13 @@ Each written [] (v ∷ vs) = ⊥
 Each written (w ∷ ws) [] = ⊥
 Each written (w ∷ ws) (v ∷ vs) = written w v × Each written ws vs
 
+-- values with a mark between two, or `-` for none
+abbrev pub IsListWord : {V : Type 0} → (List ℕ → V → Type 0) → ℕ → List ℕ → List V → Type 0
+IsListWord written mark word vs = ((word ≡ 45 ∷ []) × (vs ≡ [])) ⊎ Each written (pieces mark word) vs
+
 -- a release: numbers with `.` between two, or `-` for none
 abbrev pub IsReleaseWord : List ℕ → List ℕ → Type 0
-IsReleaseWord word ns = ((word ≡ 45 ∷ []) × (ns ≡ [])) ⊎ Decimals (pieces 46 word) ns
+IsReleaseWord word ns = IsListWord Decimal 46 word ns
 
 -- a hexadecimal digit in lower case
 abbrev pub HexDigit : ℕ → ℕ → Type 0

@@ -30,9 +30,7 @@ impl Command {
         if let Some(command) = HostCommand::read(name, words)? {
             return Ok(Command::Host(command));
         }
-        match Question::read(name, words)? {
-            Some(question) => Ok(Command::Question(question)),
-            None => Err(Unread::Malformed),
-        }
+        let question = Question::read(name, words)?.ok_or(Unread::Malformed)?;
+        Ok(Command::Question(question))
     }
 }

@@ -1,29 +1,26 @@
 // The console: what a script has entered, and the answers to its commands.
-ghost use Rattle.std.specs.Prelude.{◌<◌, ◌≤◌, IfOk, MatchOption};
-ghost use Rattle.console.specs.Left.{left};
-
 use crate::command::Command;
-use crate::host_command::{HostCommand, HostWords, OverlayWords};
+use crate::host_command::{Fixed, HostCommand, HostWords};
 use crate::question::{PythonQuestion, Question};
 use crate::script::{Script, is_silent};
-use crate::show::Shown;
+use crate::show::{Show, Shown};
 use crate::station::{Overlays, Station};
 use crate::stop::Stop;
-use crate::table::{Table, append};
-use crate::table_command::{NodeWords, TableCommand, make_edge};
-use crate::telling::{tell_answer, tell_evaluation};
+use crate::table::Table;
+use crate::table_command::{RowWords, TableCommand};
+use crate::telling::Teller;
 use crate::words::{ReleaseWord, TextWord, Unread, Written, make_all};
 use diagrams::ids::NodeId;
 use evaluation::extras::{evaluate_extras, evaluate_extras_and_python_version};
-use ranges::edges::Edge;
 use std::alloc::{AllocError, Global};
+use std::fmt::Display;
 use std::io;
-use std::io::{BufWriter, Stdout, Write};
+use std::io::{BufWriter, Stdout};
 
 #[derive(Drop)]
 pub(crate) struct Console {
     heap: Global,
-    out: BufWriter<Stdout>,
+    teller: Teller,
     table: Table,
     station: Station,
 }
@@ -32,49 +29,35 @@ impl Console {
     pub(crate) fn new(heap: Global, out: BufWriter<Stdout>) -> Console {
         Console {
             heap,
-            out,
+            teller: Teller::new(heap, out),
             table: Table::new(heap),
             station: Station::new(heap),
         }
     }
 
-    // Answers the commands of a script.
-    pub(crate) fn run(&mut self, script: &mut Script) -> io::Result<()> {
-        while let Some(command) = self.next_command(script)? {
-            match self.answer(command) {
-                Ok(()) => {}
-                Err(Stop::Refused(fault)) => writeln!(self.out, "{}", Shown(&fault))?,
-                Err(Stop::NotNow) => writeln!(self.out, "not-now")?,
-                Err(Stop::Failed(error)) => return Err(error),
-            }
-        }
-        Ok(())
-    }
-
-    // Prints what is still held back.
-    pub(crate) fn finish(&mut self) -> io::Result<()> {
-        self.out.flush()
-    }
-
-    // The next command that can be read. Lines that cannot be read are answered on the way.
-    fn next_command(&mut self, script: &mut Script) -> io::Result<Option<Command>>
-        ensures { IfOk result (λ command. MatchOption command (left script.exit ≤ left script.entry) (λ _. left script.exit < left script.entry)) }
-    {
-        while let Some(line) = script.next_line() {
+    // Answers the commands of a script, and prints what is still held back.
+    pub(crate) fn run(&mut self, script: Script) -> io::Result<()> {
+        for (number, line) in script {
             if is_silent(line) {
                 continue;
             }
             match Command::read(self.heap, line) {
-                Ok(command) => return Ok(Some(command)),
-                Err(Unread::Malformed) => writeln!(
-                    self.out,
-                    "unreadable {}",
-                    script.line_number()
-                )?,
+                Ok(command) => self.obey(command)?,
+                Err(Unread::Malformed) => self.teller.tell(format_args!("unreadable {number}"))?,
                 Err(Unread::NoMemory) => return Err(AllocError.into()),
             }
         }
-        Ok(None)
+        self.teller.finish()
+    }
+
+    // Answers a command, or tells why it has no answer.
+    fn obey(&mut self, command: Command) -> io::Result<()> {
+        match self.answer(command) {
+            Ok(()) => Ok(()),
+            Err(Stop::Refused(fault)) => self.teller.tell(Shown(&fault)),
+            Err(Stop::NotNow) => self.teller.tell("not-now"),
+            Err(Stop::Failed(error)) => Err(error),
+        }
     }
 
     fn answer(&mut self, command: Command) -> Result<(), Stop> {
@@ -87,11 +70,9 @@ impl Console {
 
     fn answer_table(&mut self, command: TableCommand) -> Result<(), Stop> {
         match command {
-            TableCommand::Release(word) => self.release(&word),
-            TableCommand::Text(word) => self.text(&word),
-            TableCommand::Node(words) => self.node(&words),
-            TableCommand::ReleaseEdge(words) => self.release_edge(&words),
-            TableCommand::TextEdge(words) => self.text_edge(&words),
+            TableCommand::Release(word) => self.value("release", &word),
+            TableCommand::Text(word) => self.value("text", &word),
+            TableCommand::Row(words) => self.row(&words),
             TableCommand::Clear => self.clear(),
             TableCommand::Admit => self.admit(),
             TableCommand::Negate(id) => self.negate(id),
@@ -117,35 +98,21 @@ impl Console {
         }
     }
 
-    fn say(&mut self, line: &str) -> Result<(), Stop> {
-        writeln!(self.out, "{line}")?;
-        Ok(())
+    fn say<L: Display + Drop>(&mut self, line: L) -> Result<(), Stop> {
+        Ok(self.teller.tell(line)?)
     }
 
-    fn release(&mut self, word: &ReleaseWord) -> Result<(), Stop> {
-        let release = word.make()?;
-        writeln!(self.out, "release {}", Shown(&release))?;
-        Ok(())
+    // The value of a word, told behind the name of its kind.
+    fn value<V: Written>(&mut self, name: &str, word: &V) -> Result<(), Stop>
+    where
+        V::Value: Show,
+    {
+        let value = word.make()?;
+        self.say(format_args!("{name} {}", Shown(&value)))
     }
 
-    fn text(&mut self, word: &TextWord) -> Result<(), Stop> {
-        let text = word.make()?;
-        writeln!(self.out, "text {}", Shown(&text))?;
-        Ok(())
-    }
-
-    fn node(&mut self, words: &NodeWords) -> Result<(), Stop> {
-        append(&mut self.table.nodes, words.make())?;
-        self.say("ok")
-    }
-
-    fn release_edge(&mut self, words: &Edge<ReleaseWord>) -> Result<(), Stop> {
-        append(&mut self.table.releases, make_edge(words))?;
-        self.say("ok")
-    }
-
-    fn text_edge(&mut self, words: &Edge<TextWord>) -> Result<(), Stop> {
-        append(&mut self.table.texts, make_edge(words))?;
+    fn row(&mut self, words: &RowWords) -> Result<(), Stop> {
+        self.table.enter(words)?;
         self.say("ok")
     }
 
@@ -161,15 +128,13 @@ impl Console {
 
     fn negate(&mut self, id: NodeId) -> Result<(), Stop> {
         let negation = id.negate().0;
-        writeln!(self.out, "id {negation}")?;
-        Ok(())
+        self.say(format_args!("id {negation}"))
     }
 
     fn kind(&mut self, id: NodeId) -> Result<(), Stop> {
         let diagram = self.table.admit()?;
         let kind = diagram.kind(id)?;
-        writeln!(self.out, "{}", Shown(&kind))?;
-        Ok(())
+        Ok(self.teller.tell(Shown(&kind))?)
     }
 
     fn host(&mut self, words: HostWords) -> Result<(), Stop> {
@@ -188,7 +153,7 @@ impl Console {
         self.say("record")
     }
 
-    fn overlay(&mut self, words: &OverlayWords) -> Result<(), Stop> {
+    fn overlay(&mut self, words: &Fixed<ReleaseWord>) -> Result<(), Stop> {
         self.station.put_over(words)?;
         self.say("ok")
     }
@@ -201,17 +166,17 @@ impl Console {
     fn evaluate(&mut self, root: NodeId, places: usize) -> Result<(), Stop> {
         let diagram = self.table.admit()?;
         let record = self.station.record()?;
-        let out = &mut self.out;
+        let teller = &mut self.teller;
         match self.station.overlays() {
-            Overlays::None => tell_evaluation(out, self.heap, &diagram, root, &record, places),
+            Overlays::None => teller.tell_evaluation(&diagram, root, &record, places),
             Overlays::One(only) => {
                 let host = only.over(&record);
-                tell_evaluation(out, self.heap, &diagram, root, &host, places)
+                teller.tell_evaluation(&diagram, root, &host, places)
             }
             Overlays::Two(below, top) => {
                 let host = below.over(&record);
                 let host = top.over(&host);
-                tell_evaluation(out, self.heap, &diagram, root, &host, places)
+                teller.tell_evaluation(&diagram, root, &host, places)
             }
         }
     }
@@ -219,7 +184,8 @@ impl Console {
     fn extras(&mut self, root: NodeId, words: &[TextWord]) -> Result<(), Stop> {
         let diagram = self.table.admit()?;
         let names = make_all(self.heap, words)?;
-        tell_answer(&mut self.out, evaluate_extras(&diagram, root, &names)?)
+        let answer = evaluate_extras(&diagram, root, &names)?;
+        self.say(Shown(&answer))
     }
 
     fn extras_python(&mut self, question: &PythonQuestion) -> Result<(), Stop> {
@@ -228,6 +194,6 @@ impl Console {
         let names = make_all(self.heap, &question.names)?;
         let root = question.root;
         let answer = evaluate_extras_and_python_version(&diagram, root, &names, &releases)?;
-        tell_answer(&mut self.out, answer)
+        self.say(Shown(&answer))
     }
 }

@@ -1,5 +1,6 @@
 // The commands about the host, as a line writes them.
 use crate::words::{ReleaseWord, TextWord, Unread, Words, Written};
+use std::alloc::Global;
 use values::faults::Fault;
 use values::keys::MarkerValueVersion;
 use values::releases::Release;
@@ -9,7 +10,7 @@ pub(crate) enum HostCommand {
     Host(HostWords),
     Names(Vec<TextWord>),
     Record,
-    Overlay(OverlayWords),
+    Overlay(Fixed<ReleaseWord>),
     Bare,
 }
 
@@ -20,7 +21,7 @@ impl HostCommand {
             b"host" => HostCommand::Host(HostWords::read(words)?),
             b"names" => HostCommand::Names(words.values()?),
             b"record" => HostCommand::Record,
-            b"overlay" => HostCommand::Overlay(OverlayWords::read(words)?),
+            b"overlay" => HostCommand::Overlay(Fixed::read(words)?),
             b"bare" => HostCommand::Bare,
             _ => return Ok(None),
         }))
@@ -59,6 +60,13 @@ pub(crate) struct PythonWords {
 }
 
 impl ImplementationWords {
+    fn new(heap: Global) -> ImplementationWords {
+        ImplementationWords {
+            name: TextWord::new(heap),
+            version: ReleaseWord::new(heap),
+        }
+    }
+
     fn read(words: &mut Words) -> Result<ImplementationWords, Unread> {
         Ok(ImplementationWords {
             name: words.value()?,
@@ -68,6 +76,17 @@ impl ImplementationWords {
 }
 
 impl PlatformWords {
+    fn new(heap: Global) -> PlatformWords {
+        PlatformWords {
+            os_name: TextWord::new(heap),
+            machine: TextWord::new(heap),
+            python_implementation: TextWord::new(heap),
+            release: TextWord::new(heap),
+            system: TextWord::new(heap),
+            version: TextWord::new(heap),
+        }
+    }
+
     fn read(words: &mut Words) -> Result<PlatformWords, Unread> {
         Ok(PlatformWords {
             os_name: words.value()?,
@@ -81,6 +100,14 @@ impl PlatformWords {
 }
 
 impl PythonWords {
+    fn new(heap: Global) -> PythonWords {
+        PythonWords {
+            full_version: ReleaseWord::new(heap),
+            version: ReleaseWord::new(heap),
+            sys_platform: TextWord::new(heap),
+        }
+    }
+
     fn read(words: &mut Words) -> Result<PythonWords, Unread> {
         Ok(PythonWords {
             full_version: words.value()?,
@@ -91,6 +118,15 @@ impl PythonWords {
 }
 
 impl HostWords {
+    // The words of a host of which nothing is known.
+    pub(crate) fn new(heap: Global) -> HostWords {
+        HostWords {
+            implementation: ImplementationWords::new(heap),
+            platform: PlatformWords::new(heap),
+            python: PythonWords::new(heap),
+        }
+    }
+
     fn read(words: &mut Words) -> Result<HostWords, Unread> {
         Ok(HostWords {
             implementation: ImplementationWords::read(words)?,
@@ -116,17 +152,25 @@ pub(crate) struct HostReleases {
     pub(crate) python_version: Release,
 }
 
-#[derive(Drop)]
-pub(crate) struct OverlayWords {
+// The release of a key that an overlay fixes, as a word writes it or made.
+#[derive(Clone, Copy)]
+pub(crate) struct Fixed<R> {
     pub(crate) key: MarkerValueVersion,
-    pub(crate) release: ReleaseWord,
+    pub(crate) release: R,
 }
 
-impl OverlayWords {
-    fn read(words: &mut Words) -> Result<OverlayWords, Unread> {
-        Ok(OverlayWords {
+impl Fixed<ReleaseWord> {
+    fn read(words: &mut Words) -> Result<Fixed<ReleaseWord>, Unread> {
+        Ok(Fixed {
             key: words.version_key()?,
             release: words.value()?,
+        })
+    }
+
+    pub(crate) fn make(&self) -> Result<Fixed<Release>, Fault> {
+        Ok(Fixed {
+            key: self.key,
+            release: self.release.make()?,
         })
     }
 }

@@ -24,6 +24,5 @@ fn main(rt: HostRuntime) -> io::Result<()> {
     rt.stdin().read_to_end(&mut input)?;
     let out = BufWriter::new(rt.alloc(), rt.stdout())?;
     let mut console = Console::new(rt.alloc(), out);
-    console.run(&mut Script::new(&input))?;
-    console.finish()
+    console.run(Script::new(&input))
 }

@@ -1,6 +1,6 @@
 // A script: its lines, and the pieces of a line.
-ghost use Rattle.std.specs.Prelude.{◌≡◌, ◌+◌, ◌^◌, ◌<◌, ◌≤◌, [], length, is_some, if◌then◌else◌, Decides, Option, MatchOption};
-ghost use Rattle.std.specs.Option.{option_map};
+ghost use Rattle.std.specs.Prelude.{◌≡◌, ◌+◌, ◌^◌, ◌<◌, ◌≤◌, [], length, Decides, Option, MatchOption};
+ghost use Rattle.std.specs.Option.{option_copied, option_map};
 ghost use Rattle.console.specs.Cuts.{Cut, Line, Gives, unread};
 ghost use Rattle.console.specs.Spelling.{Silent};
 ghost use Rattle.std.specs.Iterator.{at_most};
@@ -23,57 +23,43 @@ impl<'a> Script<'a> {
             lines: 0,
         }
     }
+}
 
-    // The number of the line that was read last, from 1.
-    pub(crate) fn line_number(&self) -> usize
-        ensures { result ≡ self.now.lines }
-    {
-        self.lines
-    }
+// The lines, each with its number from 1 and without its line feed, which the last line may lack.
+impl<'a> Iterator for Script<'a> {
+    type Item = (usize, &'a [u8]);
 
-    // The next line, without its line feed, which the last line may lack.
-    pub(crate) fn next_line(&mut self) -> Option<&'a [u8]>
-        ensures line { Line self.old.rest.now (option_map (λ x. x.now) result) self.new.rest.now }
-        ensures number { self.new.lines ≡ self.old.lines + (if is_some result then 1 else 0) }
-        ensures shorter { MatchOption result (length self.new.rest.now ≤ length self.old.rest.now) (λ _. length self.new.rest.now < length self.old.rest.now) }
-    {
-        let bytes = self.rest;
-        if bytes.is_empty() {
+    ghost next_gives = { λ s r t. Line s.rest.now (option_map (λ l. l.1.now) r) t.rest.now × MatchOption r (t.lines ≡ s.lines) (λ l. (t.lines ≡ s.lines + 1) × (l.0 ≡ t.lines)) };
+
+    ghost remaining = { λ s. at_most (length s.rest.now) };
+
+    fn next(&mut self) -> Option<(usize, &'a [u8])> {
+        if self.rest.is_empty() {
             return None;
         }
-        let (line, rest) = part(bytes, b'\n');
+        let (line, rest) = part(self.rest, b'\n');
         self.rest = rest.unwrap_or(&[]);
         self.lines += 1;
-        Some(line)
+        Some((self.lines, line))
     }
 }
 
 // The bytes before the first mark, and those behind it if there is one.
 fn part(bytes: &[u8], mark: u8) -> (&[u8], Option<&[u8]>)
-    ensures cut { Cut mark bytes.now result.0.now (option_map (λ x. x.now) result.1) }
-    ensures shorter { unread (option_map (λ x. x.now) result.1) ≤ length bytes.now }
+    ensures cut { Cut mark bytes.now result.0.now (option_copied result.1) }
+    ensures shorter { unread (option_copied result.1) ≤ length bytes.now }
 {
-    for (place, byte) in bytes.iter().enumerate() {
-        if *byte == mark {
-            return (&bytes[0..place], Some(&bytes[place + 1..]));
-        }
+    match bytes.iter().position(|byte| *byte == mark) {
+        Some(place) => (&bytes[..place], Some(&bytes[place + 1..])),
+        None => (bytes, None),
     }
-    (bytes, None)
 }
 
 // Whether a line answers nothing: a comment, or blanks only.
 pub(crate) fn is_silent(line: &[u8]) -> bool
     ensures { Decides result (Silent line.now) }
 {
-    if let [b'#', ..] = line {
-        return true;
-    }
-    for byte in line {
-        if *byte != b' ' {
-            return false;
-        }
-    }
-    true
+    matches!(line, [b'#', ..]) || line.iter().all(|byte| *byte == b' ')
 }
 
 // The pieces between marks, of which there is one more than marks.
@@ -84,7 +70,7 @@ pub(crate) struct Pieces<'a> {
 }
 
 pub(crate) fn split(bytes: &[u8], mark: u8) -> Pieces<'_>
-    ensures whole { option_map (λ x. x.now) result.rest ≡ Option.Some bytes.now }
+    ensures whole { option_copied result.rest ≡ Option.Some bytes.now }
     ensures mark { result.mark ≡ mark }
 {
     Pieces {
@@ -96,15 +82,13 @@ pub(crate) fn split(bytes: &[u8], mark: u8) -> Pieces<'_>
 impl<'a> Iterator for Pieces<'a> {
     type Item = &'a [u8];
 
-    ghost next_gives = { λ s r t. Gives s.mark (option_map (λ x. x.now) s.rest) (option_map (λ x. x.now) r) (option_map (λ x. x.now) t.rest) × (t.mark ≡ s.mark) };
+    ghost next_gives = { λ s r t. Gives s.mark (option_copied s.rest) (option_copied r) (option_copied t.rest) × (t.mark ≡ s.mark) };
 
-    ghost remaining = { λ s. at_most (unread (option_map (λ x. x.now) s.rest)) };
+    ghost remaining = { λ s. at_most (unread (option_copied s.rest)) };
 
+    #[tactic(auto, using(crate::proofs::Cutting::pieces_cut))]
     fn next(&mut self) -> Option<&'a [u8]> {
-        let Some(bytes) = self.rest else {
-            return None;
-        };
-        let (piece, rest) = part(bytes, self.mark);
+        let (piece, rest) = part(self.rest?, self.mark);
         self.rest = rest;
         Some(piece)
     }

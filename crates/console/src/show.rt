@@ -5,12 +5,14 @@ use diagrams::views::{
 use hosts::warnings::Report;
 use std::fmt;
 use std::fmt::Display;
-use values::bounds::Bound;
+use std::ops::Bound;
 use values::faults::Fault;
-use values::keys::{MarkerValueString, MarkerValueVersion};
+use values::keys::Key;
 use values::releases::Release;
 use values::texts::Text;
 
+// Printing of the unit's types. `Display` cannot be implemented here for types of other crates, and for `Shown` of each
+// of them it would need `for<'b> Shown<'b, T>: Display` at a bound, of which no proof is made.
 pub(crate) trait Show {
     fn show<W: fmt::Write>(&self, f: &mut fmt::Formatter<W>) -> fmt::Result;
 }
@@ -25,9 +27,15 @@ impl<T: Show> Display for Shown<'_, T> {
     }
 }
 
+impl Show for bool {
+    fn show<W: fmt::Write>(&self, f: &mut fmt::Formatter<W>) -> fmt::Result {
+        f.write_str(if *self { "yes" } else { "no" })
+    }
+}
+
 impl Show for Fault {
     fn show<W: fmt::Write>(&self, f: &mut fmt::Formatter<W>) -> fmt::Result {
-        let (number, layer) = (self.number(), self.layer());
+        let (number, layer) = (self.number(), self.layer() as u8);
         let (first, second) = self.places();
         write!(f, "refused {number} {layer} {first} {second}")
     }
@@ -35,12 +43,10 @@ impl Show for Fault {
 
 impl Show for Release {
     fn show<W: fmt::Write>(&self, f: &mut fmt::Formatter<W>) -> fmt::Result {
-        for place in 0..self.written() {
-            if place > 0 {
-                f.write_str(".")?;
-            }
-            let number = self.number(place);
-            write!(f, "{number}")?;
+        // A release gives its numbers by place alone.
+        write!(f, "{}", self.number(0))?;
+        for place in 1..self.written() {
+            write!(f, ".{}", self.number(place))?;
         }
         Ok(())
     }
@@ -66,22 +72,10 @@ impl<T: Show> Show for Bound<T> {
     }
 }
 
-impl Show for MarkerValueVersion {
-    fn show<W: fmt::Write>(&self, f: &mut fmt::Formatter<W>) -> fmt::Result {
-        f.write_str(self.name())
-    }
-}
-
-impl Show for MarkerValueString {
-    fn show<W: fmt::Write>(&self, f: &mut fmt::Formatter<W>) -> fmt::Result {
-        f.write_str(self.name())
-    }
-}
-
 // The key, and a line for each edge with its child under the view's id.
-impl<K: Show, T: Show> Show for EdgesMarkerTree<'_, K, T> {
+impl<K: Key, T: Show> Show for EdgesMarkerTree<'_, K, T> {
     fn show<W: fmt::Write>(&self, f: &mut fmt::Formatter<W>) -> fmt::Result {
-        self.key.show(f)?;
+        f.write_str(self.key.name())?;
         for edge in self.edges {
             let child = self.child(edge).0;
             write!(f, "\n{} {} {child}", Shown(&edge.lower), Shown(&edge.upper))?;
@@ -92,8 +86,8 @@ impl<K: Show, T: Show> Show for EdgesMarkerTree<'_, K, T> {
 
 impl Show for LiteralMarkerTree<'_> {
     fn show<W: fmt::Write>(&self, f: &mut fmt::Formatter<W>) -> fmt::Result {
-        let (high, low) = (self.high.0, self.low.0);
-        write!(f, "{} {} {high} {low}", Shown(&self.key), Shown(self.value))
+        let (key, high, low) = (self.key.name(), self.high.0, self.low.0);
+        write!(f, "{key} {} {high} {low}", Shown(self.value))
     }
 }
 
@@ -130,7 +124,7 @@ impl Show for MarkerTreeKind<'_> {
 // The number of the kind, the key and the literal.
 impl Show for Report {
     fn show<W: fmt::Write>(&self, f: &mut fmt::Formatter<W>) -> fmt::Result {
-        let kind = self.kind as u8;
-        write!(f, "{kind} {} {}", Shown(&self.key), Shown(&self.literal))
+        let (kind, key) = (self.kind as u8, self.key.name());
+        write!(f, "{kind} {key} {}", Shown(&self.literal))
     }
 }

@@ -1,33 +1,16 @@
 // The station: the host that a script describes, and the overlays over it.
-use crate::host_command::{
-    HostReleases, HostWords, ImplementationWords, OverlayWords, PlatformWords, PythonWords,
-};
+use crate::host_command::{Fixed, HostReleases, HostWords};
 use crate::stop::Stop;
-use crate::words::{ReleaseWord, TextWord, Written};
+use crate::words::ReleaseWord;
 use hosts::hosts::Host;
 use hosts::overlays::Overlay;
 use hosts::records::{Fields, Record};
 use std::alloc::Global;
 use values::faults::Fault;
-use values::keys::MarkerValueVersion;
 use values::releases::Release;
 use values::texts::Text;
 
-// The release of a key that an overlay fixes.
-#[derive(Clone, Copy)]
-pub(crate) struct Fixed {
-    key: MarkerValueVersion,
-    release: Release,
-}
-
-impl Fixed {
-    fn make(words: &OverlayWords) -> Result<Fixed, Fault> {
-        Ok(Fixed {
-            key: words.key,
-            release: words.release.make()?,
-        })
-    }
-
+impl Fixed<Release> {
     pub(crate) fn over<H: Host>(self, below: &H) -> Overlay<'_, H> {
         Overlay {
             below,
@@ -37,12 +20,13 @@ impl Fixed {
     }
 }
 
-// The overlays over a host, the newest last.
+// The overlays over a host, the newest last. An overlay over another host is of another type, so no list of overlays
+// can be walked.
 #[derive(Clone, Copy)]
 pub(crate) enum Overlays {
     None,
-    One(Fixed),
-    Two(Fixed, Fixed),
+    One(Fixed<Release>),
+    Two(Fixed<Release>, Fixed<Release>),
 }
 
 #[derive(Drop)]
@@ -53,18 +37,6 @@ pub(crate) struct Station {
     overlays: Overlays,
 }
 
-fn no_text(heap: Global) -> TextWord {
-    TextWord {
-        bytes: Vec::new(heap),
-    }
-}
-
-fn no_release(heap: Global) -> ReleaseWord {
-    ReleaseWord {
-        numbers: Vec::new(heap),
-    }
-}
-
 impl Station {
     // Empty texts, releases `0`, no names and no overlay.
     pub(crate) fn new(heap: Global) -> Station {
@@ -73,7 +45,7 @@ impl Station {
             numbers: [0; 8],
         };
         Station {
-            words: no_words(heap),
+            words: HostWords::new(heap),
             releases: HostReleases {
                 implementation_version: zero,
                 python_full_version: zero,
@@ -96,10 +68,10 @@ impl Station {
     }
 
     // Puts one more overlay on top, where there are fewer than two.
-    pub(crate) fn put_over(&mut self, words: &OverlayWords) -> Result<(), Stop> {
+    pub(crate) fn put_over(&mut self, words: &Fixed<ReleaseWord>) -> Result<(), Stop> {
         self.overlays = match self.overlays {
-            Overlays::None => Overlays::One(Fixed::make(words)?),
-            Overlays::One(below) => Overlays::Two(below, Fixed::make(words)?),
+            Overlays::None => Overlays::One(words.make()?),
+            Overlays::One(below) => Overlays::Two(below, words.make()?),
             Overlays::Two(_, _) => return Err(Stop::NotNow),
         };
         Ok(())
@@ -113,7 +85,7 @@ impl Station {
         self.overlays
     }
 
-    fn fields(&self) -> Fields<'_> {
+    fn fields(&self) -> Fields<&[u8]> {
         let HostWords {
             implementation,
             platform,
@@ -137,28 +109,5 @@ impl Station {
     // The record of the fields and the names.
     pub(crate) fn record(&self) -> Result<Record<'_>, Fault> {
         Record::new(&self.fields(), &self.names)
-    }
-}
-
-// The words of a host of which nothing is known.
-fn no_words(heap: Global) -> HostWords {
-    HostWords {
-        implementation: ImplementationWords {
-            name: no_text(heap),
-            version: no_release(heap),
-        },
-        platform: PlatformWords {
-            os_name: no_text(heap),
-            machine: no_text(heap),
-            python_implementation: no_text(heap),
-            release: no_text(heap),
-            system: no_text(heap),
-            version: no_text(heap),
-        },
-        python: PythonWords {
-            full_version: no_release(heap),
-            version: no_release(heap),
-            sys_platform: no_text(heap),
-        },
     }
 }

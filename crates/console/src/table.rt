@@ -1,8 +1,10 @@
 // The rows that a script enters.
 ghost use Rattle.std.specs.Prelude.{◌≡◌, []};
 ghost use Rattle.console.specs.Rows.{Appends};
+ghost use Rattle.console.specs.Entering.{Enters};
 
 use crate::stop::Stop;
+use crate::table_command::{RowWords, make_edge};
 use diagrams::diagram::Diagram;
 use diagrams::rows::{Node, ReleaseEdge, TextEdge};
 use std::alloc::Global;
@@ -34,13 +36,25 @@ impl Table {
         self.texts.clear();
     }
 
+    // Enters a row, unless making it was refused.
+    pub(crate) fn enter(&mut self, row: &RowWords) -> Result<(), Stop>
+        ensures { Enters row.now self.old self.new result }
+    {
+        match row {
+            RowWords::Node(words) => append(&mut self.nodes, words.make()),
+            RowWords::ReleaseEdge(words) => append(&mut self.releases, make_edge(words)),
+            RowWords::TextEdge(words) => append(&mut self.texts, make_edge(words)),
+        }
+    }
+
+    // The diagram of the rows, if they are admitted.
     pub(crate) fn admit(&self) -> Result<Diagram<'_>, Fault> {
         Diagram::admit(&self.nodes, &self.releases, &self.texts)
     }
 }
 
 // Appends a row, unless making it was refused.
-pub(crate) fn append<T: Drop>(rows: &mut Vec<T>, made: Result<T, Fault>) -> Result<(), Stop>
+fn append<T: Drop>(rows: &mut Vec<T>, made: Result<T, Fault>) -> Result<(), Stop>
     ensures { Appends made rows.old.items rows.new.items result }
 {
     rows.push(made?)?;

@@ -14,9 +14,7 @@ use values::faults::Fault;
 pub(crate) enum TableCommand {
     Release(ReleaseWord),
     Text(TextWord),
-    Node(NodeWords),
-    ReleaseEdge(Edge<ReleaseWord>),
-    TextEdge(Edge<TextWord>),
+    Row(RowWords),
     Clear,
     Admit,
     Negate(NodeId),
@@ -29,9 +27,9 @@ impl TableCommand {
         Ok(Some(match name {
             b"release" => TableCommand::Release(words.value()?),
             b"text" => TableCommand::Text(words.value()?),
-            b"node" => TableCommand::Node(NodeWords::read(words)?),
-            b"release-edge" => TableCommand::ReleaseEdge(read_edge(words)?),
-            b"text-edge" => TableCommand::TextEdge(read_edge(words)?),
+            b"node" => TableCommand::Row(RowWords::Node(NodeWords::read(words)?)),
+            b"release-edge" => TableCommand::Row(RowWords::ReleaseEdge(read_edge(words)?)),
+            b"text-edge" => TableCommand::Row(RowWords::TextEdge(read_edge(words)?)),
             b"clear" => TableCommand::Clear,
             b"admit" => TableCommand::Admit,
             b"negate" => TableCommand::Negate(NodeId(words.id()?)),
@@ -39,6 +37,14 @@ impl TableCommand {
             _ => return Ok(None),
         }))
     }
+}
+
+// A row as a line writes it.
+#[derive(Drop)]
+pub(crate) enum RowWords {
+    Node(NodeWords),
+    ReleaseEdge(Edge<ReleaseWord>),
+    TextEdge(Edge<TextWord>),
 }
 
 // The fields of a node, in the order of its row.

@@ -1,4 +1,4 @@
-// How the console tells what an evaluation answers and reports.
+// How the console tells its answers.
 use crate::show::Shown;
 use crate::stop::Stop;
 use diagrams::diagram::Diagram;
@@ -8,6 +8,8 @@ use hosts::hosts::Host;
 use hosts::keeping::KeepingReporter;
 use hosts::warnings::{MarkerWarningKind, Report};
 use std::alloc::Global;
+use std::fmt::Display;
+use std::io;
 use std::io::{BufWriter, Stdout, Write};
 use values::faults::Fault;
 use values::keys::MarkerValueString;
@@ -23,50 +25,57 @@ const NO_REPORT: Report = Report {
     },
 };
 
-// Evaluates a root with a fresh reporter, and tells the answer, the counts and what was kept.
-pub(crate) fn tell_evaluation<H: Host>(
-    out: &mut BufWriter<Stdout>,
+#[derive(Drop)]
+pub(crate) struct Teller {
     heap: Global,
-    diagram: &Diagram,
-    root: NodeId,
-    host: &H,
-    places: usize,
-) -> Result<(), Stop> {
-    let mut kept = vec![in heap; NO_REPORT; places]?;
-    let mut reporter = KeepingReporter::new(&mut kept);
-    let answer = evaluate(diagram, root, host, &mut reporter);
-    tell_result(out, answer)?;
-    tell_counts(out, reporter.counts())?;
-    tell_kept(out, reporter.kept())
+    out: BufWriter<Stdout>,
 }
 
-fn tell_result(out: &mut BufWriter<Stdout>, answer: Result<bool, Fault>) -> Result<(), Stop> {
-    match answer {
-        Ok(answer) => tell_answer(out, answer),
-        Err(fault) => {
-            writeln!(out, "{}", Shown(&fault))?;
-            Ok(())
+impl Teller {
+    pub(crate) fn new(heap: Global, out: BufWriter<Stdout>) -> Teller {
+        Teller { heap, out }
+    }
+
+    // Tells a line.
+    pub(crate) fn tell<L: Display + Drop>(&mut self, line: L) -> io::Result<()> {
+        writeln!(self.out, "{line}")
+    }
+
+    // Prints what is still held back.
+    pub(crate) fn finish(&mut self) -> io::Result<()> {
+        self.out.flush()
+    }
+
+    // Evaluates a root with a fresh reporter, and tells the answer, the counts and what was kept.
+    pub(crate) fn tell_evaluation<H: Host>(
+        &mut self,
+        diagram: &Diagram,
+        root: NodeId,
+        host: &H,
+        places: usize,
+    ) -> Result<(), Stop> {
+        let mut kept = vec![in self.heap; NO_REPORT; places]?;
+        let mut reporter = KeepingReporter::new(&mut kept);
+        match evaluate(diagram, root, host, &mut reporter) {
+            Ok(answer) => self.tell(Shown(&answer))?,
+            Err(fault) => self.tell(Shown(&fault))?,
         }
+        self.tell_counts(reporter.counts())?;
+        Ok(self.tell_kept(reporter.kept())?)
     }
-}
 
-pub(crate) fn tell_answer(out: &mut BufWriter<Stdout>, answer: bool) -> Result<(), Stop> {
-    writeln!(out, "{}", if answer { "yes" } else { "no" })?;
-    Ok(())
-}
-
-fn tell_counts(out: &mut BufWriter<Stdout>, counts: [u32; 6]) -> Result<(), Stop> {
-    write!(out, "counts")?;
-    for count in counts {
-        write!(out, " {count}")?;
+    fn tell_counts(&mut self, counts: [u32; 6]) -> io::Result<()> {
+        write!(self.out, "counts")?;
+        for count in counts {
+            write!(self.out, " {count}")?;
+        }
+        writeln!(self.out)
     }
-    writeln!(out)?;
-    Ok(())
-}
 
-fn tell_kept(out: &mut BufWriter<Stdout>, kept: &[Report]) -> Result<(), Stop> {
-    for report in kept {
-        writeln!(out, "kept {}", Shown(report))?;
+    fn tell_kept(&mut self, kept: &[Report]) -> io::Result<()> {
+        for report in kept {
+            self.tell(format_args!("kept {}", Shown(report)))?;
+        }
+        Ok(())
     }
-    Ok(())
 }

@@ -1,13 +1,13 @@
 // The words of a line, and the values that they write.
 ghost use Rattle.std.specs.Prelude.{◌≡◌, ℕ, ◌^◌, ◌<◌, List, [], Result, MatchResult};
-ghost use Rattle.std.specs.Option.{SomeIff, option_map};
+ghost use Rattle.std.specs.Option.{SomeIff};
 ghost use Rattle.std.specs.Str.Parse.{IsNumeral, digits_value as value_in};
 ghost use Rattle.values.specs.Releases.{made_release};
 ghost use Rattle.values.specs.Texts.{made_text};
 ghost use Rattle.values.specs.declared.faults.Fault.{Fault};
-ghost use Rattle.console.specs.Cuts.{pieces, pieces_left};
-ghost use Rattle.console.specs.Spelling.{Each, Decimal, HexDigit, HexBytes, IsTextWord, IsReleaseWord, BoundWord};
-ghost use Rattle.console.specs.Words.{words_left, Next, behind, Number};
+ghost use Rattle.console.specs.Cuts.{pieces};
+ghost use Rattle.console.specs.Spelling.{Each, Decimal, HexDigit, HexBytes, IsTextWord, IsListWord, IsReleaseWord, BoundWord};
+ghost use Rattle.console.specs.Words.{left_in, words_left, Next, behind, Number, ReadsNext};
 ghost use Rattle.console.specs.Reading.{Reads};
 ghost use Rattle.console.specs.Making.{made_bound};
 ghost use Rattle.console.specs.declared.words.Unread.TheVariants.{Malformed, NoMemory};
@@ -16,9 +16,9 @@ use crate::script::{Pieces, split};
 use crate::stop::Stop;
 use std::alloc::{AllocError, AllocFailed, Global};
 use std::num::TryFromIntError;
-use values::bounds::Bound;
+use std::ops::Bound;
 use values::faults::Fault;
-use values::keys::MarkerValueVersion;
+use values::keys::{Key, MarkerValueVersion};
 use values::releases::Release;
 use values::texts::Text;
 
@@ -79,13 +79,11 @@ impl<'a> Words<'a> {
         ensures next { MatchResult result (λ word. Next (λ w. w ≡ word.now) (words_left self.old)) (λ _. words_left self.old ≡ []) }
         ensures rest { words_left self.new ≡ behind (words_left self.old) }
     {
-        match self.pieces.next() {
-            Some(word) => Ok(word),
-            None => Err(Unread::Malformed),
-        }
+        self.pieces.next().ok_or(Unread::Malformed)
     }
 
     // Refuses a word too many.
+    #[tactic(auto, using(crate::proofs::Cutting::pieces_some))]
     pub(crate) fn end(&self) -> Result<(), Unread>
         ensures { Reads (λ _. words_left self.now ≡ []) result }
     {
@@ -96,28 +94,32 @@ impl<'a> Words<'a> {
     }
 
     fn number(&mut self) -> Result<u64, Unread>
-        ensures { Reads (λ n. Next (λ word. Decimal word n) (words_left self.old)) result }
+        ensures { ReadsNext Decimal self.old result }
     {
         self.value()
     }
 
-    // A number up to 255.
+    // A number up to 255. One reader of every type of number could not say what it refuses: `TryFrom` has no law by which
+    // a value is not both converted and refused.
+    #[tactic(auto, using(crate::proofs::Readings::number_refused))]
     pub(crate) fn byte(&mut self) -> Result<u8, Unread>
-        ensures { Reads (λ n. Next (Number 255 n) (words_left self.old)) result }
+        ensures { ReadsNext (Number 255) self.old result }
     {
         Ok(u8::try_from(self.number()?)?)
     }
 
     // An id, or another number of 32 bits.
+    #[tactic(auto, using(crate::proofs::Readings::number_refused))]
     pub(crate) fn id(&mut self) -> Result<u32, Unread>
-        ensures { Reads (λ n. Next (Number 4294967295 n) (words_left self.old)) result }
+        ensures { ReadsNext (Number 4294967295) self.old result }
     {
         Ok(u32::try_from(self.number()?)?)
     }
 
     // A number of places, which is at most 1,000,000.
+    #[tactic(auto, using(crate::proofs::Readings::number_refused))]
     pub(crate) fn places(&mut self) -> Result<usize, Unread>
-        ensures { Reads (λ n. Next (Number 1000000 n) (words_left self.old)) result }
+        ensures { ReadsNext (Number 1000000) self.old result }
     {
         let number = self.number()?;
         if number <= MOST_PLACES {
@@ -129,14 +131,12 @@ impl<'a> Words<'a> {
 
     // The number of a release's key.
     pub(crate) fn version_key(&mut self) -> Result<MarkerValueVersion, Unread> {
-        match MarkerValueVersion::from_number(self.byte()?) {
-            Some(key) => Ok(key),
-            None => Err(Unread::Malformed),
-        }
+        MarkerValueVersion::from_number(self.byte()?).ok_or(Unread::Malformed)
     }
 
+    #[tactic(auto, using(crate::proofs::Readings::value_refused, crate::proofs::Readings::value_read))]
     pub(crate) fn value<V: Written>(&mut self) -> Result<V, Unread>
-        ensures { Reads (λ v. Next (λ word. V.Written.written word v) (words_left self.old)) result }
+        ensures { ReadsNext V.Written.written self.old result }
     {
         V::read(self.heap, self.word()?)
     }
@@ -149,39 +149,44 @@ impl<'a> Words<'a> {
     }
 
     // Releases with a comma between two, or `-` for none.
-    pub(crate) fn releases(&mut self) -> Result<Vec<ReleaseWord>, Unread> {
-        let word = self.word()?;
-        if word == b"-".as_slice() {
-            return Ok(Vec::new(self.heap));
-        }
-        read_all(self.heap, &mut split(word, b','))
+    pub(crate) fn releases(&mut self) -> Result<Vec<ReleaseWord>, Unread>
+        ensures { ReadsNext (λ word vs. IsListWord (λ w v. IsReleaseWord w v.numbers.items) 44 word vs.items) self.old result }
+    {
+        read_list(self.heap, self.word()?, b',')
     }
 }
 
 // The values that pieces write, one each.
 fn read_all<V: Written>(heap: Global, pieces: &mut Pieces) -> Result<Vec<V>, Unread>
-    ensures { Reads (λ vs. Each V.Written.written (pieces_left pieces.old.mark (option_map (λ x. x.now) pieces.old.rest)) vs.items) result }
+    ensures { Reads (λ vs. Each V.Written.written (left_in pieces.old) vs.items) result }
 {
     let mut values = Vec::new(heap);
-    while let Some(piece) = pieces.next() {
+    for piece in pieces {
         values.push(V::read(heap, piece)?)?;
     }
     Ok(values)
 }
 
+// The values of pieces with a mark between two, or none for `-`.
+fn read_list<V: Written>(heap: Global, word: &[u8], mark: u8) -> Result<Vec<V>, Unread>
+    ensures { Reads (λ vs. IsListWord V.Written.written mark word.now vs.items) result }
+{
+    if word == b"-".as_slice() {
+        return Ok(Vec::new(heap));
+    }
+    read_all(heap, &mut split(word, mark))
+}
+
 // The number that decimal digits write, where it has 64 bits at most.
+#[tactic(auto, using(crate::proofs::Numerals::text_from_numeral))]
 fn decimal(digits: &[u8]) -> Option<u64>
     ensures { SomeIff result (IsNumeral 10 digits.now × (value_in 10 digits.now < 2 ^ 64)) (value_in 10 digits.now) }
 {
-    if digits.is_empty() {
+    // A sign may stand before what `parse` reads, and before no number of a script.
+    if let [b'+', ..] = digits {
         return None;
     }
-    let mut number = 0u64;
-    for byte in digits {
-        let digit = (*byte as char).to_digit(10)?;
-        number = number.checked_mul(10)?.checked_add(digit as u64)?;
-    }
-    Some(number)
+    str::from_utf8(digits).ok()?.parse().ok()
 }
 
 // The value of a hexadecimal digit in lower case.
@@ -196,22 +201,20 @@ fn hexadecimal_digit(byte: u8) -> Result<u8, Unread>
 }
 
 // The bytes that pairs of hexadecimal digits write.
+#[tactic(auto, using(crate::proofs::Pairs::odd_refused, crate::proofs::Pairs::all_read))]
 fn hexadecimal(heap: Global, digits: &[u8]) -> Result<Vec<u8>, Unread>
     ensures { Reads (λ bytes. HexBytes digits.now bytes.items) result }
 {
+    if digits.len() % 2 != 0 {
+        return Err(Unread::Malformed);
+    }
     let mut bytes = Vec::with_capacity(heap, digits.len() / 2)?;
-    let mut rest = digits;
-    while let [high, low, tail @ ..] = rest {
-        let high = hexadecimal_digit(*high)?;
-        let low = hexadecimal_digit(*low)?;
+    for pair in digits.chunks_exact(2) {
+        let high = hexadecimal_digit(pair[0])?;
+        let low = hexadecimal_digit(pair[1])?;
         bytes.push(high * 16 + low)?;
-        rest = tail;
     }
-    if rest.is_empty() {
-        Ok(bytes)
-    } else {
-        Err(Unread::Malformed)
-    }
+    Ok(bytes)
 }
 
 // A value as a word writes it: nothing is made before the whole line is read.
@@ -240,10 +243,7 @@ impl Written for u64 {
     ghost made = { λ n. Result.Ok n };
 
     fn read(_heap: Global, word: &[u8]) -> Result<u64, Unread> {
-        match decimal(word) {
-            Some(number) => Ok(number),
-            None => Err(Unread::Malformed),
-        }
+        decimal(word).ok_or(Unread::Malformed)
     }
 
     fn make(&self) -> Result<u64, Fault> {
@@ -257,6 +257,16 @@ pub(crate) struct ReleaseWord {
     pub(crate) numbers: Vec<u64>,
 }
 
+impl ReleaseWord {
+    pub(crate) fn new(heap: Global) -> ReleaseWord
+        ensures { result.numbers.items ≡ [] }
+    {
+        ReleaseWord {
+            numbers: Vec::new(heap),
+        }
+    }
+}
+
 impl Written for ReleaseWord {
     type Value = Release;
 
@@ -265,14 +275,7 @@ impl Written for ReleaseWord {
     ghost made = { λ v. made_release v.numbers.items };
 
     fn read(heap: Global, word: &[u8]) -> Result<ReleaseWord, Unread> {
-        if word == b"-".as_slice() {
-            return Ok(ReleaseWord {
-                numbers: Vec::new(heap),
-            });
-        }
-        Ok(ReleaseWord {
-            numbers: read_all(heap, &mut split(word, b'.'))?,
-        })
+        read_list(heap, word, b'.').map(|numbers| ReleaseWord { numbers })
     }
 
     fn make(&self) -> Result<Release, Fault> {
@@ -286,6 +289,16 @@ pub(crate) struct TextWord {
     pub(crate) bytes: Vec<u8>,
 }
 
+impl TextWord {
+    pub(crate) fn new(heap: Global) -> TextWord
+        ensures { result.bytes.items ≡ [] }
+    {
+        TextWord {
+            bytes: Vec::new(heap),
+        }
+    }
+}
+
 impl Written for TextWord {
     type Value = Text;
 
@@ -297,9 +310,7 @@ impl Written for TextWord {
         let [b'x', digits @ ..] = word else {
             return Err(Unread::Malformed);
         };
-        Ok(TextWord {
-            bytes: hexadecimal(heap, digits)?,
-        })
+        hexadecimal(heap, digits).map(|bytes| TextWord { bytes })
     }
 
     fn make(&self) -> Result<Text, Fault> {
@@ -316,12 +327,10 @@ impl<V: Written> Written for Bound<V> {
     ghost made = { λ b. made_bound V.Written.made b };
 
     fn read(heap: Global, word: &[u8]) -> Result<Bound<V>, Unread> {
-        if word == b"*".as_slice() {
-            return Ok(Bound::Unbounded);
-        }
         match word {
-            [b'[', value @ ..] => Ok(Bound::Included(V::read(heap, value)?)),
-            [b'(', value @ ..] => Ok(Bound::Excluded(V::read(heap, value)?)),
+            b"*" => Ok(Bound::Unbounded),
+            [b'[', value @ ..] => V::read(heap, value).map(Bound::Included),
+            [b'(', value @ ..] => V::read(heap, value).map(Bound::Excluded),
             _ => Err(Unread::Malformed),
         }
     }
@@ -329,17 +338,16 @@ impl<V: Written> Written for Bound<V> {
     fn make(&self) -> Result<Bound<V::Value>, Fault> {
         match self {
             Bound::Unbounded => Ok(Bound::Unbounded),
-            Bound::Included(value) => Ok(Bound::Included(value.make()?)),
-            Bound::Excluded(value) => Ok(Bound::Excluded(value.make()?)),
+            Bound::Included(value) => value.make().map(Bound::Included),
+            Bound::Excluded(value) => value.make().map(Bound::Excluded),
         }
     }
 }
 
 // What words make: the first refusal, or all.
 pub(crate) fn make_all<V: Written>(heap: Global, words: &[V]) -> Result<Vec<V::Value>, Stop> {
-    let mut made = Vec::new(heap);
-    for word in words {
-        made.push(word.make()?)?;
-    }
-    Ok(made)
+    words
+        .iter()
+        .map(|word| -> Result<V::Value, Stop> { Ok(word.make()?) })
+        .try_collect(heap)
 }

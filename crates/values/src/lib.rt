@@ -1,7 +1,6 @@
 // The values of a marker diagram: releases, texts, names, keys, bounds, the order of values, and refusals.
 #![tactic(auto)]
 
-pub mod bounds;
 pub mod faults;
 pub mod keys;
 pub mod orders;

@@ -1,9 +1,10 @@
-use Rattle.std.specs.Option.{option_map}
-use Rattle.console.specs.Cuts.{pieces_left}
+use Rattle.console.specs.Words.{left_in}
 use Rattle.console.proofs.Pieces.{ValuesSoFar}
 use Rattle.console.proofs.words.read_all.Given as goal
 
 -- the values so far, and the pieces that are left
 abbrev pub invariant-loop-piece : goal.invariant-loop-piece
 invariant-loop-piece g l =
-    ValuesSoFar g.V.Written.written (pieces_left l.initial.pieces.mark (option_map (λ x. x.now) l.initial.pieces.rest)) (pieces_left l.pieces.mark (option_map (λ x. x.now) l.pieces.rest)) l.values.items
+    (goal.iterator-loop-piece g).can_next l.piece-iterator
+    × (goal.iterator-loop-piece g).is_finite l.piece-iterator
+    × ValuesSoFar g.V.Written.written (left_in l.fn.pieces) (left_in l.piece-iterator) l.values.items

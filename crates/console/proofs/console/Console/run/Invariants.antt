@@ -1,5 +1,0 @@
-use Rattle.std.proofs.Common.{length}
-use Rattle.console.proofs.console.Console.run.Given as goal
-
-abbrev pub decreases-loop-command : goal.decreases-loop-command
-decreases-loop-command l = length l.script.rest.now

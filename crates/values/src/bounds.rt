@@ -1,2 +1,0 @@
-// An end of a range.
-pub use std::ops::Bound;
