@@ -4,8 +4,8 @@ use diagrams::diagram::Diagram;
 use diagrams::ids::NodeId;
 use diagrams::rows::{Node, ReleaseEdge, TextEdge};
 use diagrams::views::{EdgesMarkerTree, MarkerTreeKind, MarkerValueExtra};
-use std::process::Abort;
 use std::ops::Bound::Unbounded;
+use std::process::Abort;
 use values::faults::Fault;
 use values::keys::Key;
 
