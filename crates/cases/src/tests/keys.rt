@@ -1,3 +1,4 @@
+use std::process::Abort;
 use std::test::Fail;
 use values::keys::{Key, MarkerValueString, MarkerValueVersion};
 
@@ -25,7 +26,7 @@ const STRING_NAMES: [&str; 14] = [
 ];
 
 // Checks that the keys have the numbers from 0 on, and the names.
-fn have<K: Key>(rt: &HostRuntime, names: &[&str]) -> Result<(), Fail> {
+fn have<K: Key>(rt: &impl Abort, names: &[&str]) -> Result<(), Fail> {
     for (number, name) in (0u8..=255).zip(names) {
         let key = K::from_number(number).ok_or(*name)?;
         assert_eq!(rt; key.number(), number);
