@@ -41,10 +41,10 @@ returns c =
     let low = root_low t a id (shown_kind c.in_ok-kind.field-0) c.in_ok-kind.ensures.answer in
     let known-root = root_known t a id (shown_kind c.in_ok-kind.field-0) c.in_ok-kind.ensures.answer in
     let here : c.says.result ≡ extras names rs t id =
-        elim c.loop-id-test.branch [
-          | else-loop-id-test w ↦ absurd (omega arith)
-          | then-loop-id-test+else-id-id-end w ↦
-              let more = settled_more names rs t a c.loop-id.id c.loop-id.asked.table w.settle.result (omega arith) (search rules) c.loop-id.invariant.below id (omega arith) in
-              c.says.ensures ∙ ap (λ (x : Asked). settled x id) w.asked-is ∙ more
-        ] in
+    elim c.loop-id-test.branch [
+      | else-loop-id-test w ↦ absurd (omega arith)
+      | then-loop-id-test+else-id-id-end w ↦
+          let more = settled_more names rs t a c.loop-id.id c.loop-id.asked.table w.settle.result (omega arith) (search rules) c.loop-id.invariant.below id (omega arith) in
+          c.says.ensures ∙ ap (λ (x : Asked). settled x id) w.asked-is ∙ more
+    ] in
     ap Ok here ∙ sym (ap (λ o. unless_refused o (extras names rs t id)) (passed (names_refusal names) c.in_ok-check_names.ensures)) ∙ root_answer names rs t id known-root
