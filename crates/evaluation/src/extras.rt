@@ -22,8 +22,8 @@ use values::texts::Text;
 // As many ids as the largest diagram has, TRUE and FALSE included.
 const MOST_IDS: usize = 8194;
 
-// What is asked, the extras that are active and the releases of Python where they are known, and what the ids that are
-// settled may say.
+// What an evaluation of extras knows: the active names, the releases of Python if they are given, and what each id
+// that is settled may say.
 #[derive(Drop)]
 struct Asked<'a> {
     names: &'a [Text],
