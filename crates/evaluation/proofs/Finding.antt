@@ -5,11 +5,13 @@ use Rattle.std.specs.Fn.{Called, Mut}
 use Rattle.std.specs.Iterator.Runs.{Run, IsWindowsRun, AnyItemGives, AllItemsGive, CallKeepsClosure}
 use Rattle.std.specs.List.{IsSubsliceAt}
 use Rattle.std.proofs.Math.Seq.{take-append_seam, drop-append_seam}
+use Rattle.std.specs.Cmp.Lexicographic.{pointwise}
+use Rattle.std.proofs.lemmas.Slice.Eq.{starts_is}
 use Rattle.std.proofs.lemmas.Option.{none-some}
 use Rattle.std.specs.Option.{option_map, IfSome, IsSomeAnd}
 use Rattle.std.proofs.lemmas.List.{take-append-drop}
 use Rattle.std.proofs.lemmas.Bool.{and_parts, and_from, or_cases, or_left, or_right, eqb-true, eq-eqb, true≢false}
-use Rattle.std.proofs.lemmas.Bool.Decides.{same_from_decides}
+use Rattle.std.proofs.lemmas.Bool.Decides.{same_from_decides, Decides-eqb}
 use Rattle.evaluation.specs.Substrings.{begins, contained, Within}
 
 -- what stands behind a part with which a text begins
@@ -35,6 +37,12 @@ begins_to (p ∷ part) (b ∷ text) rest e =
 
 begins_says : (part text : List ℕ) → Decides (begins part text) (Front part text)
 begins_says part text = (begins_from part text, λ w. begins_to part text w.rest w.is)
+
+-- what `starts_with` answers
+pub starts : (part text : List ℕ) (r : Bool) → r ≡ pointwise eqb part (take (length part) text) → r ≡ begins part text
+starts part text r m =
+    let s = starts_is Decides-eqb text part r m in
+    same_from_decides r (begins part text) (λ e. record { rest = drop (length part) text; is = s.0 e }, λ w. s.1 w.rest w.is) (begins_says part text)
 
 contained_from : (part text : List ℕ) → contained part text ≡ true → Within part text
 contained_from part [] e = let w = begins_from part [] e in record { before = []; behind = w.rest; is = w.is }

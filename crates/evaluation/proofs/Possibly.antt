@@ -3,7 +3,7 @@ use Rattle.std.proofs.Common.{◌≡◌, ◌≢◌, ℕ, zero, suc, ◌+◌, ◌
 use Rattle.std.specs.Ordering.{is_eq}
 use Rattle.std.specs.Cmp.{Equal-is}
 use Rattle.std.proofs.lemmas.Bool.{cases_Bool, and_parts, and_from, or_cases, or_left, or_right, leb-true, true≢false}
-use Rattle.std.proofs.lemmas.List.{get_or-set_same, get_or-set_other}
+use Rattle.std.proofs.lemmas.List.{get_or-set_same, get_or-set_other, get_or_default}
 use Rattle.std.specs.List.{list_any}
 use Rattle.values.specs.Rows.{by_row}
 use Rattle.values.specs.Releases.{release_row}
@@ -29,7 +29,7 @@ use Rattle.evaluation.specs.Walks.{walk}
 use Rattle.evaluation.specs.Evaluation.{Says, Evaluates}
 use Rattle.evaluation.specs.Evaluation as says
 use Rattle.evaluation.specs.Extras.{counts, may_say, on_result, extras_by, extras, Possible, at_true, at_version, at_string, in_high, in_low, has_high, has_low, extra_high, extra_low, text_low, includes, extras_answer, ExtrasLaw}
-use Rattle.std.proofs.lemmas.List.Folds.{list_any_at}
+use Rattle.std.proofs.lemmas.List.Folds.{Any-from_list_any, list_any_at}
 use Rattle.evaluation.proofs.Saying.{evaluates, lacks_view}
 use Rattle.diagrams.proofs.Lawful.{sound}
 
@@ -85,12 +85,9 @@ module _ (names : List Text) (rs : Option (List Release)) where
 -- ---- in plain words
 
 some_edge : {A : Type 0} (d : A) (p : A → Bool) (xs : List A) → list_any p xs ≡ true → (j : ℕ) × ((j < length xs) × (p (get_or xs j d) ≡ true))
-some_edge d p [] e = absurd (true≢false (sym e))
-some_edge d p (x ∷ xs) e =
-    elim (or_cases (p x) (list_any p xs) e) [
-      | inl h ↦ (0, (omega arith, h))
-      | inr h ↦ let w = some_edge d p xs h in (suc w.0, (let l = w.1.0 in omega arith, w.1.1))
-    ]
+some_edge d p xs e =
+    let w = Any-from_list_any p xs e in
+    (w.0, (w.2, ap p (get_or_default xs w.0 d w.1 w.2 ∙ w.3) ∙ w.4))
 
 edge_some : {A : Type 0} (d : A) (p : A → Bool) (xs : List A) (j : ℕ) → j < length xs → p (get_or xs j d) ≡ true → list_any p xs ≡ true
 edge_some d p xs j lt h = list_any_at p xs j d lt h

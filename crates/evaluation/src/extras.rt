@@ -31,8 +31,8 @@ fn any_inside(edge: &Edge<Release>, releases: &[Release]) -> bool
     releases.iter().any(|release| edge.contains(release))
 }
 
-// What is asked, the extras that are active and the releases of Python where they are known, and what the ids that are
-// settled may say.
+// What an evaluation of extras knows: the active names, the releases of Python if they are given, and what each id
+// that is settled may say.
 #[derive(Drop)]
 struct Asked<'a> {
     names: &'a [Text],
