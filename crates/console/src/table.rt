@@ -12,9 +12,9 @@ use values::faults::Fault;
 
 #[derive(Drop)]
 pub(crate) struct Table {
-    pub(crate) nodes: Vec<Node>,
-    pub(crate) releases: Vec<ReleaseEdge>,
-    pub(crate) texts: Vec<TextEdge>,
+    nodes: Vec<Node>,
+    releases: Vec<ReleaseEdge>,
+    texts: Vec<TextEdge>,
 }
 
 impl Table {
