@@ -1,5 +1,5 @@
 -- Which of several checks finds the first broken rule: judgements of checks, one behind another.
-use Rattle.std.proofs.Common.{◌≡◌, ℕ, ◌+◌, ◌<◌, ◌≤◌, Bool, true, false, cond, Some, None, Option, sym, refl, ap, ◌∙◌, subst, inl, inr, arith}
+use Rattle.std.proofs.Common.{◌≡◌, ℕ, ◌+◌, ◌<◌, ◌≤◌, Bool, true, false, cond, eqb, Some, None, Option, sym, refl, ap, ◌∙◌, subst, inl, inr, arith}
 use Rattle.std.specs.Option.{option_or, option_map}
 use Rattle.std.proofs.lemmas.Bool.{cases_lt, cases_eq}
 use Rattle.values.specs.Faults.{refusal}
@@ -14,57 +14,52 @@ number f = (refusal f).number
 abbrev pub second : Fault → ℕ
 second f = (refusal f).second
 
--- ---- the refusals of nodes by their numbers
+-- ---- refusals by their numbers
 
-module _ (P : Fault → Type 0) (k : ℕ) where
-  by_number : (k ≡ 5 → (i : ℕ) → P (UnknownKind i)) → (k ≡ 6 → (i : ℕ) → P (KeyOutOfRange i)) → (k ≡ 7 → (i : ℕ) → P (ExtraNotNormal i)) → (k ≡ 8 → (i : ℕ) → P (EdgeCount i)) → (k ≡ 9 → (i : ℕ) → P (EdgesPastEnd i))
-      → (k ≡ 10 → (i j : ℕ) → P (ChildTooLarge i j)) → (k ≡ 11 → (i j : ℕ) → P (EmptyRange i j)) → (k ≡ 12 → (i j : ℕ) → P (Uncovered i j)) → (k ≡ 13 → (i : ℕ) → P (OneChild i))
-      → 5 ≤ k → k < 14 → (g : Fault) → number g ≡ k → P g
-  by_number a b c d e f h m n lo hi ReleaseCount s = absurd (omega arith)
-  by_number a b c d e f h m n lo hi (NumberTooLarge i) s = absurd (omega arith)
-  by_number a b c d e f h m n lo hi TextTooLong s = absurd (omega arith)
-  by_number a b c d e f h m n lo hi TooManyNodes s = absurd (omega arith)
-  by_number a b c d e f h m n lo hi (UnknownKind i) s = a (sym s) i
-  by_number a b c d e f h m n lo hi (KeyOutOfRange i) s = b (sym s) i
-  by_number a b c d e f h m n lo hi (ExtraNotNormal i) s = c (sym s) i
-  by_number a b c d e f h m n lo hi (EdgeCount i) s = d (sym s) i
-  by_number a b c d e f h m n lo hi (EdgesPastEnd i) s = e (sym s) i
-  by_number a b c d e f h m n lo hi (ChildTooLarge i j) s = f (sym s) i j
-  by_number a b c d e f h m n lo hi (EmptyRange i j) s = h (sym s) i j
-  by_number a b c d e f h m n lo hi (Uncovered i j) s = m (sym s) i j
-  by_number a b c d e f h m n lo hi (OneChild i) s = n (sym s) i
-  by_number a b c d e f h m n lo hi UnknownId s = absurd (omega arith)
-  by_number a b c d e f h m n lo hi (HostTextTooLong i) s = absurd (omega arith)
-  by_number a b c d e f h m n lo hi (NameNotNormal i) s = absurd (omega arith)
-  by_number a b c d e f h m n lo hi PathFull s = absurd (omega arith)
-  by_number a b c d e f h m n lo hi ClausesFull s = absurd (omega arith)
+-- the refusal of a number and places
+abbrev pub fault : ℕ → ℕ → ℕ → Fault
+fault n i j =
+    cond (eqb n 1) ReleaseCount
+    (cond (eqb n 2) (NumberTooLarge i)
+    (cond (eqb n 3) TextTooLong
+    (cond (eqb n 4) TooManyNodes
+    (cond (eqb n 5) (UnknownKind i)
+    (cond (eqb n 6) (KeyOutOfRange i)
+    (cond (eqb n 7) (ExtraNotNormal i)
+    (cond (eqb n 8) (EdgeCount i)
+    (cond (eqb n 9) (EdgesPastEnd i)
+    (cond (eqb n 10) (ChildTooLarge i j)
+    (cond (eqb n 11) (EmptyRange i j)
+    (cond (eqb n 12) (Uncovered i j)
+    (cond (eqb n 13) (OneChild i)
+    (cond (eqb n 14) UnknownId
+    (cond (eqb n 15) (HostTextTooLong i)
+    (cond (eqb n 16) (NameNotNormal i)
+    (cond (eqb n 17) PathFull ClausesFull))))))))))))))))
 
-pub only_5 : (P : Fault → Type 0) → ((i : ℕ) → P (UnknownKind i)) → (g : Fault) → number g ≡ 5 → P g
-only_5 P h = by_number P 5 (λ _. h) (λ e. absurd (omega arith)) (λ e. absurd (omega arith)) (λ e. absurd (omega arith)) (λ e. absurd (omega arith)) (λ e. absurd (omega arith)) (λ e. absurd (omega arith)) (λ e. absurd (omega arith)) (λ e. absurd (omega arith)) (omega arith) (omega arith)
+is_fault : (g : Fault) → fault (number g) (refusal g).first (second g) ≡ g
+is_fault ReleaseCount = refl
+is_fault (NumberTooLarge i) = refl
+is_fault TextTooLong = refl
+is_fault TooManyNodes = refl
+is_fault (UnknownKind i) = refl
+is_fault (KeyOutOfRange i) = refl
+is_fault (ExtraNotNormal i) = refl
+is_fault (EdgeCount i) = refl
+is_fault (EdgesPastEnd i) = refl
+is_fault (ChildTooLarge i j) = refl
+is_fault (EmptyRange i j) = refl
+is_fault (Uncovered i j) = refl
+is_fault (OneChild i) = refl
+is_fault UnknownId = refl
+is_fault (HostTextTooLong i) = refl
+is_fault (NameNotNormal i) = refl
+is_fault PathFull = refl
+is_fault ClausesFull = refl
 
-pub only_6 : (P : Fault → Type 0) → ((i : ℕ) → P (KeyOutOfRange i)) → (g : Fault) → number g ≡ 6 → P g
-only_6 P h = by_number P 6 (λ e. absurd (omega arith)) (λ _. h) (λ e. absurd (omega arith)) (λ e. absurd (omega arith)) (λ e. absurd (omega arith)) (λ e. absurd (omega arith)) (λ e. absurd (omega arith)) (λ e. absurd (omega arith)) (λ e. absurd (omega arith)) (omega arith) (omega arith)
-
-pub only_7 : (P : Fault → Type 0) → ((i : ℕ) → P (ExtraNotNormal i)) → (g : Fault) → number g ≡ 7 → P g
-only_7 P h = by_number P 7 (λ e. absurd (omega arith)) (λ e. absurd (omega arith)) (λ _. h) (λ e. absurd (omega arith)) (λ e. absurd (omega arith)) (λ e. absurd (omega arith)) (λ e. absurd (omega arith)) (λ e. absurd (omega arith)) (λ e. absurd (omega arith)) (omega arith) (omega arith)
-
-pub only_8 : (P : Fault → Type 0) → ((i : ℕ) → P (EdgeCount i)) → (g : Fault) → number g ≡ 8 → P g
-only_8 P h = by_number P 8 (λ e. absurd (omega arith)) (λ e. absurd (omega arith)) (λ e. absurd (omega arith)) (λ _. h) (λ e. absurd (omega arith)) (λ e. absurd (omega arith)) (λ e. absurd (omega arith)) (λ e. absurd (omega arith)) (λ e. absurd (omega arith)) (omega arith) (omega arith)
-
-pub only_9 : (P : Fault → Type 0) → ((i : ℕ) → P (EdgesPastEnd i)) → (g : Fault) → number g ≡ 9 → P g
-only_9 P h = by_number P 9 (λ e. absurd (omega arith)) (λ e. absurd (omega arith)) (λ e. absurd (omega arith)) (λ e. absurd (omega arith)) (λ _. h) (λ e. absurd (omega arith)) (λ e. absurd (omega arith)) (λ e. absurd (omega arith)) (λ e. absurd (omega arith)) (omega arith) (omega arith)
-
-pub only_10 : (P : Fault → Type 0) → ((i j : ℕ) → P (ChildTooLarge i j)) → (g : Fault) → number g ≡ 10 → P g
-only_10 P h = by_number P 10 (λ e. absurd (omega arith)) (λ e. absurd (omega arith)) (λ e. absurd (omega arith)) (λ e. absurd (omega arith)) (λ e. absurd (omega arith)) (λ _. h) (λ e. absurd (omega arith)) (λ e. absurd (omega arith)) (λ e. absurd (omega arith)) (omega arith) (omega arith)
-
-pub only_11 : (P : Fault → Type 0) → ((i j : ℕ) → P (EmptyRange i j)) → (g : Fault) → number g ≡ 11 → P g
-only_11 P h = by_number P 11 (λ e. absurd (omega arith)) (λ e. absurd (omega arith)) (λ e. absurd (omega arith)) (λ e. absurd (omega arith)) (λ e. absurd (omega arith)) (λ e. absurd (omega arith)) (λ _. h) (λ e. absurd (omega arith)) (λ e. absurd (omega arith)) (omega arith) (omega arith)
-
-pub only_12 : (P : Fault → Type 0) → ((i j : ℕ) → P (Uncovered i j)) → (g : Fault) → number g ≡ 12 → P g
-only_12 P h = by_number P 12 (λ e. absurd (omega arith)) (λ e. absurd (omega arith)) (λ e. absurd (omega arith)) (λ e. absurd (omega arith)) (λ e. absurd (omega arith)) (λ e. absurd (omega arith)) (λ e. absurd (omega arith)) (λ _. h) (λ e. absurd (omega arith)) (omega arith) (omega arith)
-
-pub only_13 : (P : Fault → Type 0) → ((i : ℕ) → P (OneChild i)) → (g : Fault) → number g ≡ 13 → P g
-only_13 P h = by_number P 13 (λ e. absurd (omega arith)) (λ e. absurd (omega arith)) (λ e. absurd (omega arith)) (λ e. absurd (omega arith)) (λ e. absurd (omega arith)) (λ e. absurd (omega arith)) (λ e. absurd (omega arith)) (λ e. absurd (omega arith)) (λ _. h) (omega arith) (omega arith)
+-- what is so of the refusals of one number
+pub only : (P : Fault → Type 0) (n : ℕ) → ((i j : ℕ) → P (fault n i j)) → (g : Fault) → number g ≡ n → P g
+only P n h g e = subst P (is_fault g) (rw e (h (refusal g).first (second g)))
 
 -- ---- judgements
 

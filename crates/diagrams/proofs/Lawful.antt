@@ -26,7 +26,7 @@ use Rattle.diagrams.specs.Admission.{most_nodes, least_edges, most_edges, key_re
 use Rattle.diagrams.specs.Rules.{children, AllEqual, EmptyAt, Breaks, Broken, too_many, at_node, First, Refuses, SoundEdges, SoundNode, Sound}
 use Rattle.diagrams.specs.declared.rows.Node.{Node}
 use Rattle.diagrams.proofs.Checks.{few, many}
-use Rattle.diagrams.proofs.Judge.{number, second, only_5, only_6, only_7, only_8, only_9, only_10, only_11, only_12, only_13, Judged, later, then, one, nothing, alone, flag, placed, by_test}
+use Rattle.diagrams.proofs.Judge.{number, second, only, Judged, later, then, one, nothing, alone, flag, placed, by_test}
 
 -- ---- lists of child ids
 
@@ -60,11 +60,11 @@ pub record SaysChildren (B : Fault → Type 0) (i : ℕ) (cs : List ℕ) : Type 
 judge_children : (B : Fault → Type 0) (i : ℕ) (cs : List ℕ) → SaysChildren B i cs → Judged B (child_refusal i cs) 10 11
 judge_children B i cs s =
     placed (λ j. ChildTooLarge i j) (first_place (too_large i) cs) 10 11 refl (λ j. refl) (λ j. refl)
-    (λ e. only_10 (λ (q : Fault). B q → ⊥)
+    (λ e. only (λ (q : Fault). B q → ⊥) 10
     (λ k j b. let w = s.large_only k j b in let small = leb-false (2 * (i + 1)) (get_or cs j 0) (first_none 0 (too_large i) 0 cs e j w.0) in let big = w.1 in omega arith))
     (λ j e. let w = first_some 0 (too_large i) cs e in s.large j w.within (leb-true (2 * (i + 1)) (get_or cs j 0) w.here))
     (λ j e. let w = first_some 0 (too_large i) cs e in
-    only_10 (λ (q : Fault). B q → j ≤ second q)
+    only (λ (q : Fault). B q → j ≤ second q) 10
     (λ k m b. elim (cases_lt m j)
     [ inl lt ↦ let big = (s.large_only k m b).1 in let small = leb-false (2 * (i + 1)) (get_or cs m 0) (w.earlier m lt) in absurd (omega arith) | inr ge ↦ ge ]))
 
@@ -72,7 +72,7 @@ judge_same : (B : Fault → Type 0) (i : ℕ) (cs : List ℕ) → SaysChildren B
 judge_same B i cs s =
     flag (all_same cs) (OneChild i) None 13 14 refl refl (omega arith)
     (λ e. s.same (same_equal cs e))
-    (λ e. only_13 (λ (q : Fault). B q → ⊥) (λ k b. both_ways (all_same cs) e (equal_same cs (s.same_only k b))))
+    (λ e. only (λ (q : Fault). B q → ⊥) 13 (λ k j b. both_ways (all_same cs) e (equal_same cs (s.same_only k b))))
     (λ e. nothing 14 14 (λ g l h b. omega arith))
 
 -- ---- rules 10 to 13, of a node's own edges
@@ -88,19 +88,19 @@ module _ {T : Type 0} (row : T → Row) (B : Fault → Type 0) (i : ℕ) (es : L
   judge_ranges : Judged B (range_refusal row i es) 11 12
   judge_ranges =
       placed (λ j. EmptyRange i j) (first_place (empty_edge row) es) 11 12 refl (λ j. refl) (λ j. refl)
-      (λ e. only_11 (λ (q : Fault). B q → ⊥) (λ k j b. let w = s.hollow_only k j b in both_ways (empty_edge row (get_or es j no_edge)) (first_none no_edge (empty_edge row) 0 es e j w.0) w.1))
+      (λ e. only (λ (q : Fault). B q → ⊥) 11 (λ k j b. let w = s.hollow_only k j b in both_ways (empty_edge row (get_or es j no_edge)) (first_none no_edge (empty_edge row) 0 es e j w.0) w.1))
       (λ j e. let w = first_some no_edge (empty_edge row) es e in s.hollow j (w.within, w.here))
       (λ j e. let w = first_some no_edge (empty_edge row) es e in
-      only_11 (λ (q : Fault). B q → j ≤ second q)
+      only (λ (q : Fault). B q → j ≤ second q) 11
       (λ k m b. elim (cases_lt m j) [ inl lt ↦ absurd (both_ways (empty_edge row (get_or es m no_edge)) (w.earlier m lt) (s.hollow_only k m b).1) | inr ge ↦ ge ]))
 
   judge_cover : 0 < length es → Judged B (cover_refusal row i es) 12 13
   judge_cover some =
       let p = gaps.placed row es (uncovered row es) refl in
       placed (λ j. Uncovered i j) (uncovered row es) 12 13 refl (λ j. refl) (λ j. refl)
-      (λ e. only_12 (λ (q : Fault). B q → ⊥) (λ k j b. p.none e j (s.gap_only k j b)))
+      (λ e. only (λ (q : Fault). B q → ⊥) 12 (λ k j b. p.none e j (s.gap_only k j b)))
       (λ j e. s.gap j (p.gap j e some))
-      (λ j e. only_12 (λ (q : Fault). B q → j ≤ second q) (λ k m b. p.first j e m (s.gap_only k m b)))
+      (λ j e. only (λ (q : Fault). B q → j ≤ second q) 12 (λ k m b. p.first j e m (s.gap_only k m b)))
 
   judge_own : 0 < length es → Judged B (own_refusal row i es) 10 14
   judge_own some =
@@ -124,8 +124,8 @@ judge_ranged : {T : Type 0} (row : T → Row) (B : Fault → Type 0) (i : ℕ) (
 judge_ranged row B i n es s =
     flag (wrong_edges n) (EdgeCount i) _ 8 14 refl refl (omega arith)
     (λ e. s.wrong (elim (or_cases (ltb n.count least_edges) (ltb most_edges n.count) e) [ inl a ↦ inl (ltb-true n.count least_edges a) | inr b ↦ inr (ltb-true most_edges n.count b) ]))
-    (λ e. only_8 (λ (q : Fault). B q → ⊥)
-    (λ k b.
+    (λ e. only (λ (q : Fault). B q → ⊥) 8
+    (λ k j b.
     let p = or_parts (ltb n.count least_edges) (ltb most_edges n.count) e in
     let least = ltb-false n.count least_edges p.0 in
     let most = ltb-false most_edges n.count p.1 in
@@ -135,7 +135,7 @@ judge_ranged row B i n es s =
     let least = ltb-false n.count least_edges p.0 in
     flag (ltb (length es) (n.first + n.count)) (EdgesPastEnd i) _ 9 14 refl refl (omega arith)
     (λ e. s.past (ltb-true (length es) (n.first + n.count) e))
-    (λ e. only_9 (λ (q : Fault). B q → ⊥) (λ k b. let a = ltb-false (length es) (n.first + n.count) e in let c = s.past_only k b in omega arith))
+    (λ e. only (λ (q : Fault). B q → ⊥) 9 (λ k j b. let a = ltb-false (length es) (n.first + n.count) e in let c = s.past_only k b in omega arith))
     (λ e₂.
     let within = ltb-false (length es) (n.first + n.count) e₂ in
     let long = own_long es n within in
@@ -231,23 +231,23 @@ module _ (t : Table) (i : ℕ) (n : Node) where
 
   -- which rules a kind does not know
   no_kind : n.kind ≤ 5 → (g : Fault) → number g ≡ 5 → B g → ⊥
-  no_kind low = only_5 (λ (q : Fault). B q → ⊥) (λ k b. let x = b.1 in omega arith)
+  no_kind low = only (λ (q : Fault). B q → ⊥) 5 (λ k j b. let x = b.1 in omega arith)
 
   no_key : 4 ≤ n.kind → (g : Fault) → number g ≡ 6 → B g → ⊥
-  no_key high = only_6 (λ (q : Fault). B q → ⊥) (λ k b. elim b.1 [ inl p ↦ let x = p.0 in omega arith | inr p ↦ let x = p.1 in omega arith ])
+  no_key high = only (λ (q : Fault). B q → ⊥) 6 (λ k j b. elim b.1 [ inl p ↦ let x = p.0 in omega arith | inr p ↦ let x = p.1 in omega arith ])
 
   no_name : (n.kind ≡ 4 → ⊥) → (g : Fault) → number g ≡ 7 → B g → ⊥
-  no_name ne = only_7 (λ (q : Fault). B q → ⊥) (λ k b. ne b.1)
+  no_name ne = only (λ (q : Fault). B q → ⊥) 7 (λ k j b. ne b.1)
 
   no_edges : 2 ≤ n.kind → (g : Fault) → 8 ≤ number g → number g < 13 → (number g ≡ 10 → ⊥) → B g → ⊥
   no_edges high g l h ne b =
       elim (cases_eq (number g) 8) [
-        | inl e ↦ only_8 (λ (q : Fault). B q → ⊥) (λ k x. let y = x.1 in omega arith) g e b
+        | inl e ↦ only (λ (q : Fault). B q → ⊥) 8 (λ k j x. let y = x.1 in omega arith) g e b
         | inr n8 ↦ elim (cases_eq (number g) 9) [
-          | inl e ↦ only_9 (λ (q : Fault). B q → ⊥) (λ k x. two x.1) g e b
+          | inl e ↦ only (λ (q : Fault). B q → ⊥) 9 (λ k j x. two x.1) g e b
           | inr n9 ↦ elim (cases_eq (number g) 11) [
-            | inl e ↦ only_11 (λ (q : Fault). B q → ⊥) (λ k j x. two x.1) g e b
-            | inr n11 ↦ only_12 (λ (q : Fault). B q → ⊥) (λ k j x. two x.1) g (omega arith) b
+            | inl e ↦ only (λ (q : Fault). B q → ⊥) 11 (λ k j x. two x.1) g e b
+            | inr n11 ↦ only (λ (q : Fault). B q → ⊥) 12 (λ k j x. two x.1) g (omega arith) b
           ]
         ]
       ]
@@ -258,10 +258,10 @@ module _ (t : Table) (i : ℕ) (n : Node) where
 
   -- rule 6, where the kind takes the keys ks
   judge_key : {K : Type 0} (ks : List K) (m : ℕ) → length ks ≡ m + 1 → n.kind ≤ 3 → (m < n.key → B (KeyOutOfRange i)) → ((k : ℕ) → B (KeyOutOfRange k) → m < n.key) → Judged B (key_refusal i (is_some (slice_get ks n.key))) 5 8
-  judge_key ks m long low bad only =
+  judge_key ks m long low bad bad_only =
       alone (is_some (slice_get ks n.key)) (KeyOutOfRange i) 5 8 (omega arith) (omega arith) refl
       (λ e. let x = ltb-false n.key (length ks) (sym (nth_some ks n.key) ∙ e) in bad (omega arith))
-      (λ e. only_6 (λ (q : Fault). B q → ⊥) (λ k b. let x = ltb-true n.key (length ks) (sym (nth_some ks n.key) ∙ e) in let y = only k b in omega arith))
+      (λ e. only (λ (q : Fault). B q → ⊥) 6 (λ k j b. let x = ltb-true n.key (length ks) (sym (nth_some ks n.key) ∙ e) in let y = bad_only k b in omega arith))
       (λ g l h ne b. elim (cases_eq (number g) 5) [ inl e ↦ no_kind (omega arith) g e b | inr n5 ↦ no_name (λ e. omega arith) g (omega arith) b ])
 
   version_rule : n.kind ≡ 0 → Judged B (key_refusal i (is_some (version_key_of n.key))) 5 8
@@ -275,7 +275,7 @@ module _ (t : Table) (i : ℕ) (n : Node) where
       let named = normal_says (text_bytes n.literal) in
       alone (normal_name (text_bytes n.literal)) (ExtraNotNormal i) 5 8 (omega arith) (omega arith) refl
       (λ e. (refl, four, λ normal. both_ways (normal_name (text_bytes n.literal)) e (named.1 normal)))
-      (λ e. only_7 (λ (q : Fault). B q → ⊥) (λ k b. b.2 (named.0 e)))
+      (λ e. only (λ (q : Fault). B q → ⊥) 7 (λ k j b. b.2 (named.0 e)))
       (λ g l h ne b. elim (cases_eq (number g) 5) [ inl e ↦ no_kind (omega arith) g e b | inr n5 ↦ no_key (omega arith) g (omega arith) b ])
 
   branches : (lo : ℕ) → lo ≤ 10 → 2 ≤ n.kind → n.kind ≤ 5 → ((g : Fault) → lo ≤ number g → number g < 8 → B g → ⊥) → Judged B (branches_refusal i n.high n.low) lo 14

@@ -44,22 +44,6 @@ impl NodeKind {
     }
 }
 
-// The key of an admitted release node.
-fn version_key(number: u8) -> MarkerValueVersion
-    requires { number ≤ 2 }
-    ensures { Some result ≡ version_key_of number }
-{
-    MarkerValueVersion::from_number(number).unwrap()
-}
-
-// The key of another admitted node that has one.
-fn string_key(number: u8) -> MarkerValueString
-    requires { number ≤ 13 }
-    ensures { Some result ≡ string_key_of number }
-{
-    MarkerValueString::from_number(number).unwrap()
-}
-
 impl<'a> Diagram<'a> {
     // What an id stands for, or refusal 14.
     #[tactic(auto, using(crate::proofs::Shows::shows_true, crate::proofs::Shows::shows_false, crate::proofs::Shows::unknown_id, crate::proofs::Shows::shows_node, crate::proofs::Viewing::view_shows, crate::proofs::Lawful::sound))]
@@ -89,12 +73,12 @@ impl<'a> Diagram<'a> {
         match NodeKind::from_number(node.kind).unwrap() {
             NodeKind::Version => MarkerTreeKind::Version(EdgesMarkerTree {
                 id,
-                key: version_key(node.key),
+                key: MarkerValueVersion::from_number(node.key).unwrap(),
                 edges: own_edges(self.rows.releases, node),
             }),
             NodeKind::String => MarkerTreeKind::String(EdgesMarkerTree {
                 id,
-                key: string_key(node.key),
+                key: MarkerValueString::from_number(node.key).unwrap(),
                 edges: own_edges(self.rows.texts, node),
             }),
             NodeKind::In => MarkerTreeKind::In(literal_tree(node, high, low)),
@@ -121,7 +105,7 @@ fn literal_tree(node: &Node, high: NodeId, low: NodeId) -> LiteralMarkerTree<'_>
     ensures children { (result.high ≡ high) × (result.low ≡ low) }
 {
     LiteralMarkerTree {
-        key: string_key(node.key),
+        key: MarkerValueString::from_number(node.key).unwrap(),
         value: &node.literal,
         high,
         low,
