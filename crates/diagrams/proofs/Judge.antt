@@ -130,12 +130,10 @@ flag true f r lo hi nf sf l bad good rest = one f lo hi (omega arith) (omega ari
 flag false f r lo hi nf sf l bad good rest = later lo (lo + 1) hi (omega arith) (λ g bg m n. good refl g (omega arith) bg) (rest refl)
 
 mapped-some : {A : Type 0} (f : ℕ → A) (o : Option ℕ) {g : A} → option_map f o ≡ Some g → (j : ℕ) × ((o ≡ Some j) × (g ≡ f j))
-mapped-some f None e = absurd (some_none (sym e))
-mapped-some f (Some j) e = (j, (refl, sym (some_same e)))
+mapped-some f o e = grind arith
 
 mapped-none : {A : Type 0} (f : ℕ → A) (o : Option ℕ) → option_map f o ≡ None → o ≡ None
-mapped-none f None e = refl
-mapped-none f (Some j) e = absurd (some_none e)
+mapped-none f o e = grind arith
 
 -- a rule with places within the node
 pub placed : {B : Fault → Type 0} (f : ℕ → Fault) (o : Option ℕ) (lo hi : ℕ) → hi ≡ lo + 1 → ((j : ℕ) → number (f j) ≡ lo) → ((j : ℕ) → second (f j) ≡ j)
@@ -156,13 +154,3 @@ placed {B} f o lo hi eh nf sf none some least = record {
 pub by_test : {B : Fault → Type 0} (b : Bool) (x y : Option Fault) (lo hi : ℕ) → (b ≡ true → Judged B x lo hi) → (b ≡ false → Judged B y lo hi) → Judged B (cond b x y) lo hi
 by_test true x y lo hi p q = p refl
 by_test false x y lo hi p q = q refl
-
--- the same rules in other words
-pub reworded : {B C : Fault → Type 0} {check : Option Fault} (lo hi : ℕ) → ((g : Fault) → lo ≤ number g → B g → C g) → ((g : Fault) → lo ≤ number g → C g → B g) → Judged B check lo hi → Judged C check lo hi
-reworded lo hi to from p = record {
-  clear = λ e g cg l h. p.clear e g (from g l cg) l h;
-  found = λ f e. to f (p.from f e) (p.found f e);
-  from = p.from;
-  to = p.to;
-  first = λ f e g cg l. p.first f e g (from g l cg) l;
-}

@@ -31,18 +31,18 @@ use Rattle.diagrams.proofs.Judge.{number, second, only, Judged, later, then, one
 -- ---- lists of child ids
 
 equal_all : (c : ℕ) (cs : List ℕ) → all (λ d. eqb d c) cs ≡ true → (j : ℕ) → j < length cs → get_or cs j 0 ≡ c
-equal_all c [] a j lt = absurd (not-suc-le-zero lt)
-equal_all c (d ∷ cs) a zero lt = eqb-true d c (and_parts (eqb d c) (all (λ e. eqb e c) cs) a).0
-equal_all c (d ∷ cs) a (suc j) lt = equal_all c cs (and_parts (eqb d c) (all (λ e. eqb e c) cs) a).1 j (le_of_suc-le-suc lt)
+equal_all c [] a j lt = grind arith
+equal_all c (d ∷ cs) a zero lt = grind (arith, nat_tests)
+equal_all c (d ∷ cs) a (suc j) lt = grind (arith, nat_tests, equal_all c cs)
 
 all_equal : (c : ℕ) (cs : List ℕ) → ((j : ℕ) → j < length cs → get_or cs j 0 ≡ c) → all (λ d. eqb d c) cs ≡ true
 all_equal c [] h = refl
-all_equal c (d ∷ cs) h = and_from (eqb d c) (all (λ e. eqb e c) cs) (eq-eqb d c (h 0 (omega arith))) (all_equal c cs (λ j lt. h (suc j) (omega arith)))
+all_equal c (d ∷ cs) h = grind (arith, nat_tests, all_equal c cs (λ j lt. h (suc j) (omega arith)), h 0)
 
 same_equal : (cs : List ℕ) → all_same cs ≡ true → AllEqual cs
-same_equal [] a j lt = absurd (not-suc-le-zero lt)
+same_equal [] a j lt = grind arith
 same_equal (c ∷ cs) a zero lt = refl
-same_equal (c ∷ cs) a (suc j) lt = equal_all c cs a j (le_of_suc-le-suc lt)
+same_equal (c ∷ cs) a (suc j) lt = equal_all c cs a j (omega arith)
 
 equal_same : (cs : List ℕ) → AllEqual cs → all_same cs ≡ true
 equal_same [] h = refl
@@ -162,12 +162,9 @@ judge_branches B i h l s lo b none =
 -- ---- the rules of a node, by its kind
 
 pub nth_some : {K : Type 0} (ks : List K) (n : ℕ) → is_some (slice_get ks n) ≡ ltb n (length ks)
-nth_some [] n = sym (le-ltb n 0 (omega arith))
-nth_some (k ∷ ks) zero = sym (lt-ltb 0 (length (k ∷ ks)) (omega arith))
-nth_some (k ∷ ks) (suc n) = nth_some ks n ∙ shifted n (length ks)
-  where
-    shifted : (a b : ℕ) → ltb a b ≡ ltb (suc a) (suc b)
-    shifted a b = grind (arith, nat_tests)
+nth_some [] n = grind (arith, nat_tests)
+nth_some (k ∷ ks) zero = grind (arith, nat_tests)
+nth_some (k ∷ ks) (suc n) = grind (arith, nat_tests, nth_some ks n)
 
 module _ (t : Table) (i : ℕ) (n : Node) where
   abbrev B : Fault → Type 0
@@ -185,33 +182,27 @@ module _ (t : Table) (i : ℕ) (n : Node) where
   says cs low e = subst (λ (ds : List ℕ). SaysChildren B i ds) e (says_all low)
 
   pub release_ids : n.kind ≡ 0 → children t n ≡ child_ids (own t.releases n)
-  release_ids e = let a : leb n.kind 0 ≡ true = grind (arith, nat_tests) in rw a
+  release_ids e = grind (arith, nat_tests)
 
   pub text_ids : n.kind ≡ 1 → children t n ≡ child_ids (own t.texts n)
-  text_ids e =
-      let a : leb n.kind 0 ≡ false = grind (arith, nat_tests) in
-      let b : leb n.kind 1 ≡ true = grind (arith, nat_tests) in
-      rw (a, b)
+  text_ids e = grind (arith, nat_tests)
 
   pub branch_ids : 2 ≤ n.kind → children t n ≡ n.high ∷ n.low ∷ []
-  branch_ids e =
-      let a : leb n.kind 0 ≡ false = grind (arith, nat_tests) in
-      let b : leb n.kind 1 ≡ false = grind (arith, nat_tests) in
-      rw (a, b)
+  branch_ids e = grind (arith, nat_tests)
 
   says_releases : n.kind ≡ 0 → SaysRanged release_row B i n t.releases
   says_releases z = record {
     edges_of_own = record {
       ids = says (child_ids (own t.releases n)) (omega arith) (release_ids z);
       hollow = λ j h. (refl, inl (z, h));
-      hollow_only = λ k j b. elim b.1 [ inl p ↦ p.1 | inr p ↦ absurd (let o = p.0 in omega arith) ];
+      hollow_only = λ k j b. grind arith;
       gap = λ j h. (refl, inl (z, h));
-      gap_only = λ k j b. elim b.1 [ inl p ↦ p.1 | inr p ↦ absurd (let o = p.0 in omega arith) ];
+      gap_only = λ k j b. grind arith;
     };
     wrong = λ h. (refl, omega arith, h);
     wrong_only = λ k b. b.2;
     past = λ h. (refl, inl (z, h));
-    past_only = λ k b. elim b.1 [ inl p ↦ p.1 | inr p ↦ absurd (let o = p.0 in omega arith) ];
+    past_only = λ k b. grind arith;
   }
 
   says_texts : n.kind ≡ 1 → SaysRanged text_bytes B i n t.texts
@@ -219,14 +210,14 @@ module _ (t : Table) (i : ℕ) (n : Node) where
     edges_of_own = record {
       ids = says (child_ids (own t.texts n)) (omega arith) (text_ids z);
       hollow = λ j h. (refl, inr (z, h));
-      hollow_only = λ k j b. elim b.1 [ inl p ↦ absurd (let o = p.0 in omega arith) | inr p ↦ p.1 ];
+      hollow_only = λ k j b. grind arith;
       gap = λ j h. (refl, inr (z, h));
-      gap_only = λ k j b. elim b.1 [ inl p ↦ absurd (let o = p.0 in omega arith) | inr p ↦ p.1 ];
+      gap_only = λ k j b. grind arith;
     };
     wrong = λ h. (refl, omega arith, h);
     wrong_only = λ k b. b.2;
     past = λ h. (refl, inr (z, h));
-    past_only = λ k b. elim b.1 [ inl p ↦ absurd (let o = p.0 in omega arith) | inr p ↦ p.1 ];
+    past_only = λ k b. grind arith;
   }
 
   -- which rules a kind does not know
@@ -234,27 +225,18 @@ module _ (t : Table) (i : ℕ) (n : Node) where
   no_kind low = only (λ (q : Fault). B q → ⊥) 5 (λ k j b. let x = b.1 in omega arith)
 
   no_key : 4 ≤ n.kind → (g : Fault) → number g ≡ 6 → B g → ⊥
-  no_key high = only (λ (q : Fault). B q → ⊥) 6 (λ k j b. elim b.1 [ inl p ↦ let x = p.0 in omega arith | inr p ↦ let x = p.1 in omega arith ])
+  no_key high = only (λ (q : Fault). B q → ⊥) 6 (λ k j b. grind arith)
 
   no_name : (n.kind ≡ 4 → ⊥) → (g : Fault) → number g ≡ 7 → B g → ⊥
   no_name ne = only (λ (q : Fault). B q → ⊥) 7 (λ k j b. ne b.1)
 
   no_edges : 2 ≤ n.kind → (g : Fault) → 8 ≤ number g → number g < 13 → (number g ≡ 10 → ⊥) → B g → ⊥
   no_edges high g l h ne b =
-      elim (cases_eq (number g) 8) [
-        | inl e ↦ only (λ (q : Fault). B q → ⊥) 8 (λ k j x. let y = x.1 in omega arith) g e b
-        | inr n8 ↦ elim (cases_eq (number g) 9) [
-          | inl e ↦ only (λ (q : Fault). B q → ⊥) 9 (λ k j x. two x.1) g e b
-          | inr n9 ↦ elim (cases_eq (number g) 11) [
-            | inl e ↦ only (λ (q : Fault). B q → ⊥) 11 (λ k j x. two x.1) g e b
-            | inr n11 ↦ only (λ (q : Fault). B q → ⊥) 12 (λ k j x. two x.1) g (omega arith) b
-          ]
-        ]
-      ]
-    where
-      two : {P Q : Type 0} → ((n.kind ≡ 0) × P) ⊎ ((n.kind ≡ 1) × Q) → ⊥
-      two (inl p) = let x = p.0 in omega arith
-      two (inr p) = let x = p.0 in omega arith
+      let n8 = only (λ (q : Fault). B q → ⊥) 8 (λ k j x. grind arith) g in
+      let n9 = only (λ (q : Fault). B q → ⊥) 9 (λ k j x. grind arith) g in
+      let n11 = only (λ (q : Fault). B q → ⊥) 11 (λ k j x. grind arith) g in
+      let n12 = only (λ (q : Fault). B q → ⊥) 12 (λ k j x. grind arith) g in
+      grind (arith, n8, n9, n11, n12)
 
   -- rule 6, where the kind takes the keys ks
   judge_key : {K : Type 0} (ks : List K) (m : ℕ) → length ks ≡ m + 1 → n.kind ≤ 3 → (m < n.key → B (KeyOutOfRange i)) → ((k : ℕ) → B (KeyOutOfRange k) → m < n.key) → Judged B (key_refusal i (is_some (slice_get ks n.key))) 5 8
@@ -262,13 +244,13 @@ module _ (t : Table) (i : ℕ) (n : Node) where
       alone (is_some (slice_get ks n.key)) (KeyOutOfRange i) 5 8 (omega arith) (omega arith) refl
       (λ e. let x = ltb-false n.key (length ks) (sym (nth_some ks n.key) ∙ e) in bad (omega arith))
       (λ e. only (λ (q : Fault). B q → ⊥) 6 (λ k j b. let x = ltb-true n.key (length ks) (sym (nth_some ks n.key) ∙ e) in let y = bad_only k b in omega arith))
-      (λ g l h ne b. elim (cases_eq (number g) 5) [ inl e ↦ no_kind (omega arith) g e b | inr n5 ↦ no_name (λ e. omega arith) g (omega arith) b ])
+      (λ g l h ne b. let n5 = no_kind (omega arith) g in let n7 = no_name (λ e. omega arith) g in grind (arith, n5, n7))
 
   version_rule : n.kind ≡ 0 → Judged B (key_refusal i (is_some (version_key_of n.key))) 5 8
-  version_rule z = judge_key version_keys 2 refl (omega arith) (λ h. (refl, inl (z, h))) (λ k b. elim b.1 [ inl p ↦ p.1 | inr p ↦ absurd (let x = p.0 in omega arith) ])
+  version_rule z = judge_key version_keys 2 refl (omega arith) (λ h. (refl, inl (z, h))) (λ k b. grind arith)
 
   string_rule : 1 ≤ n.kind → n.kind ≤ 3 → Judged B (key_refusal i (is_some (string_key_of n.key))) 5 8
-  string_rule some low = judge_key string_keys 13 refl low (λ h. (refl, inr (some, low, h))) (λ k b. elim b.1 [ inl p ↦ absurd (let x = p.0 in omega arith) | inr p ↦ p.2 ])
+  string_rule some low = judge_key string_keys 13 refl low (λ h. (refl, inr (some, low, h))) (λ k b. grind arith)
 
   name_rule : n.kind ≡ 4 → Judged B (name_refusal i n.literal) 5 8
   name_rule four =
@@ -276,7 +258,7 @@ module _ (t : Table) (i : ℕ) (n : Node) where
       alone (normal_name (text_bytes n.literal)) (ExtraNotNormal i) 5 8 (omega arith) (omega arith) refl
       (λ e. (refl, four, λ normal. both_ways (normal_name (text_bytes n.literal)) e (named.1 normal)))
       (λ e. only (λ (q : Fault). B q → ⊥) 7 (λ k j b. b.2 (named.0 e)))
-      (λ g l h ne b. elim (cases_eq (number g) 5) [ inl e ↦ no_kind (omega arith) g e b | inr n5 ↦ no_key (omega arith) g (omega arith) b ])
+      (λ g l h ne b. let n5 = no_kind (omega arith) g in let n6 = no_key (omega arith) g in grind (arith, n5, n6))
 
   branches : (lo : ℕ) → lo ≤ 10 → 2 ≤ n.kind → n.kind ≤ 5 → ((g : Fault) → lo ≤ number g → number g < 8 → B g → ⊥) → Judged B (branches_refusal i n.high n.low) lo 14
   branches lo le high low none =
@@ -292,7 +274,7 @@ module _ (t : Table) (i : ℕ) (n : Node) where
       (λ e. let z = eqb-true n.kind 1 e in then (key_refusal i (is_some (string_key_of n.key))) (ranged_refusal text_bytes i n t.texts) 5 8 14 (omega arith) (omega arith) (string_rule (omega arith) (omega arith)) (judge_ranged text_bytes B i n t.texts (says_texts z)))
       (λ e₁. let n1 = eqb-false n.kind 1 e₁ in
       by_test (eqb n.kind 2 || eqb n.kind 3) _ _ 5 14
-      (λ e. let low : n.kind ≤ 3 = elim (or_cases (eqb n.kind 2) (eqb n.kind 3) e) [ inl a ↦ let x = eqb-true n.kind 2 a in omega arith | inr b ↦ let x = eqb-true n.kind 3 b in omega arith ] in
+      (λ e. let low : n.kind ≤ 3 = grind (arith, nat_tests) in
       then (key_refusal i (is_some (string_key_of n.key))) (branches_refusal i n.high n.low) 5 8 14 (omega arith) (omega arith) (string_rule (omega arith) low) (branches 8 (omega arith) (omega arith) (omega arith) (λ g l h b. omega arith)))
       (λ e₂.
       let p = or_parts (eqb n.kind 2) (eqb n.kind 3) e₂ in
@@ -307,10 +289,10 @@ module _ (t : Table) (i : ℕ) (n : Node) where
     where
       no_other : n.kind ≡ 5 → (g : Fault) → 5 ≤ number g → number g < 8 → B g → ⊥
       no_other z g l h b =
-          elim (cases_eq (number g) 5) [
-            | inl e ↦ no_kind (omega arith) g e b
-            | inr n5 ↦ elim (cases_eq (number g) 6) [ inl e ↦ no_key (omega arith) g e b | inr n6 ↦ no_name (λ e. omega arith) g (omega arith) b ]
-          ]
+          let n5 = no_kind (omega arith) g in
+          let n6 = no_key (omega arith) g in
+          let n7 = no_name (λ e. omega arith) g in
+          grind (arith, n5, n6, n7)
 
   -- where a broken rule lies
   pub breaks_at : (g : Fault) → B g → ((refusal g).first ≡ i) × (5 ≤ number g) × (number g < 14)
@@ -339,12 +321,10 @@ module _ (t : Table) (i : ℕ) (n : Node) where
 -- ---- all nodes
 
 or_none : (a b : Option Fault) → option_or a b ≡ None → (a ≡ None) × (b ≡ None)
-or_none None b e = (refl, e)
-or_none (Some f) b e = absurd (some_none e)
+or_none a b e = grind arith
 
 or_some : (a b : Option Fault) {f : Fault} → option_or a b ≡ Some f → (a ≡ Some f) ⊎ ((a ≡ None) × (b ≡ Some f))
-or_some None b e = inr (refl, e)
-or_some (Some g) b e = inl e
+or_some a b e = grind arith
 
 module _ (t : Table) where
   abbrev checks : ℕ → List Node → Option Fault
@@ -434,7 +414,7 @@ module _ (t : Table) where
 
 any_none : {A : Type 0} (d : A) (p : A → Bool) (xs : List A) → ((k : ℕ) → k < length xs → p (get_or xs k d) ≡ false) → any p xs ≡ false
 any_none d p [] h = refl
-any_none d p (x ∷ xs) h = ap (λ b. b || any p xs) (h 0 (omega arith)) ∙ any_none d p xs (λ k lt. h (suc k) (omega arith))
+any_none d p (x ∷ xs) h = grind (arith, any_none d p xs (λ k lt. h (suc k) (omega arith)), h 0)
 
 covers : {T : Type 0} (row : T → Row) (es : List (Edge T)) → 0 < length es → ((k : ℕ) → Gap row es k → ⊥) → cover row es ≡ true
 covers row es some none = by (uncovered row es) refl
@@ -445,40 +425,33 @@ covers row es some none = by (uncovered row es) refl
 
 sound_edges : {T : Type 0} (row : T → Row) (B : Fault → Type 0) (i : ℕ) (n : Node) (es : List (Edge T)) → SaysRanged row B i n es → ((g : Fault) → B g → ⊥) → SoundEdges row es n
 sound_edges row B i n es s none =
-    let least : least_edges ≤ n.count = elim (cases_lt n.count least_edges) [ inl lt ↦ absurd (none (EdgeCount i) (s.wrong (inl lt))) | inr ge ↦ ge ] in
-    let most : n.count ≤ most_edges = elim (cases_lt most_edges n.count) [ inl lt ↦ absurd (none (EdgeCount i) (s.wrong (inr lt))) | inr ge ↦ ge ] in
-    let within : n.first + n.count ≤ length es = elim (cases_lt (length es) (n.first + n.count)) [ inl lt ↦ absurd (none (EdgesPastEnd i) (s.past lt)) | inr ge ↦ ge ] in
+    let least : least_edges ≤ n.count = grind (arith, none (EdgeCount i), s.wrong) in
+    let most : n.count ≤ most_edges = grind (arith, none (EdgeCount i), s.wrong) in
+    let within : n.first + n.count ≤ length es = grind (arith, none (EdgesPastEnd i), s.past) in
     let long = own_long es n within in
-    let filled : any (empty_edge row) (own es n) ≡ false = any_none no_edge (empty_edge row) (own es n)
-    (λ k lt. elim (cases_Bool (empty_edge row (get_or (own es n) k no_edge))) [ inl e ↦ absurd (none (EmptyRange i k) (s.edges_of_own.hollow k (lt, e))) | inr f ↦ f ]) in
+    let filled : any (empty_edge row) (own es n) ≡ false = any_none no_edge (empty_edge row) (own es n) (λ k lt. grind (arith, none (EmptyRange i k), s.edges_of_own.hollow k)) in
     let covered : cover row (own es n) ≡ true = covers row (own es n) (omega arith) (λ k g. none (Uncovered i k) (s.edges_of_own.gap k g)) in
     record { least = least; most = most; within = within; filled = filled; covered = covered; one = parted row (own es n) filled covered }
 
 sound_node : (t : Table) (i : ℕ) (n : Node) → ((g : Fault) → Breaks t i n g → ⊥) → SoundNode t i n
 sound_node t i n none =
-    let low : n.kind ≤ 5 = elim (cases_lt 5 n.kind) [ inl lt ↦ absurd (none (UnknownKind i) (refl, lt)) | inr ge ↦ ge ] in
+    let low : n.kind ≤ 5 = grind (arith, none (UnknownKind i)) in
     record {
       kind = low;
-      version = λ z. elim (cases_lt 2 n.key) [ inl lt ↦ absurd (none (KeyOutOfRange i) (refl, inl (z, lt))) | inr ge ↦ ge ];
-      string = λ some few. elim (cases_lt 13 n.key) [ inl lt ↦ absurd (none (KeyOutOfRange i) (refl, inr (some, few, lt))) | inr ge ↦ ge ];
-      extra = λ four. elim (cases_Bool (normal_name (text_bytes n.literal))) [
-        | inl e ↦ (normal_says (text_bytes n.literal)).0 e
-        | inr e ↦ absurd (none (ExtraNotNormal i) (refl, four, λ normal. both_ways (normal_name (text_bytes n.literal)) e ((normal_says (text_bytes n.literal)).1 normal)))
-      ];
-      falls = λ j lt. elim (cases_lt (get_or (children t n) j 0) (2 * (i + 1))) [ inl less ↦ less | inr ge ↦ absurd (none (ChildTooLarge i j) (refl, low, lt, ge)) ];
+      version = λ z. grind (arith, none (KeyOutOfRange i));
+      string = λ some few. grind (arith, none (KeyOutOfRange i));
+      extra = λ four. grind (arith, none (ExtraNotNormal i), normal_says (text_bytes n.literal));
+      falls = λ j lt. grind (arith, none (ChildTooLarge i j));
       apart = λ h. none (OneChild i) (refl, low, h);
       releases = λ z. sound_edges release_row (Breaks t i n) i n t.releases (says_releases t i n z) none;
       texts = λ z. sound_edges text_bytes (Breaks t i n) i n t.texts (says_texts t i n z) none;
     }
 
-some_false : (r : Option Fault) → is_some r ≡ false → r ≡ None
-some_false None e = refl
-some_false (Some f) e = absurd (both_ways true e refl)
-
 pub sound : (t : Table) → is_some (first_refusal t) ≡ false → Sound t
 sound t a =
-    let none = (refuses t).none (some_false (first_refusal t) a) in
+    let none = (refuses t).none (grind arith) in
+    let many_nodes : most_nodes < length t.nodes → ⊥ = λ lt. none TooManyNodes (too_many lt) in
     record {
-      few = elim (cases_lt most_nodes (length t.nodes)) [ inl lt ↦ absurd (none TooManyNodes (too_many lt)) | inr ge ↦ ge ];
+      few = grind (arith, many_nodes);
       node = λ i lt. sound_node t i (get_or t.nodes i no_node) (λ g b. none g (at_node i lt b));
     }

@@ -46,7 +46,7 @@ impl NodeKind {
 
 impl<'a> Diagram<'a> {
     // What an id stands for, or refusal 14.
-    #[tactic(auto, using(crate::proofs::Shows::shows_true, crate::proofs::Shows::shows_false, crate::proofs::Shows::unknown_id, crate::proofs::Shows::shows_node, crate::proofs::Viewing::view_shows, crate::proofs::Lawful::sound))]
+    #[tactic(auto, using(crate::proofs::Viewing::view_shows), unfolding(crate::specs::Views::view))]
     pub fn kind(&self, id: NodeId) -> Result<MarkerTreeKind<'a>, Fault>
         ensures answer { shown result ≡ view (table_of self.now) id.0 }
         ensures law { Shows (table_of self.now) id.0 }
