@@ -1,11 +1,12 @@
 -- Which of several checks finds the first broken rule: judgements of checks, one behind another.
-use Rattle.std.proofs.Common.{◌≡◌, ℕ, ◌+◌, ◌<◌, ◌≤◌, Bool, true, false, cond, eqb, Some, None, Option, sym, refl, ap, ◌∙◌, subst, inl, inr, arith}
+use Rattle.std.proofs.Common.{◌≡◌, ℕ, ◌+◌, ◌<◌, ◌≤◌, Bool, true, false, cond, eqb, List, length, get_or, Some, None, Option, sym, refl, ap, ◌∙◌, subst, inl, inr, arith}
 use Rattle.std.specs.Option.{option_or, option_map}
-use Rattle.std.proofs.lemmas.Bool.{cases_lt, cases_eq}
+use Rattle.std.proofs.lemmas.Bool.{cases_lt, cases_eq, both_ways}
 use Rattle.values.specs.Faults.{refusal}
 use Rattle.values.specs.declared.faults.Fault.{Fault}
 use Rattle.values.specs.declared.faults.Fault.TheVariants.{ReleaseCount, NumberTooLarge, TextTooLong, TooManyNodes, UnknownKind, KeyOutOfRange, ExtraNotNormal, EdgeCount, EdgesPastEnd, ChildTooLarge, EmptyRange, Uncovered, OneChild, UnknownId, HostTextTooLong, NameNotNormal, PathFull, ClausesFull}
-use Rattle.values.proofs.Firsts.{some_none, some_same}
+use Rattle.values.proofs.Firsts.{some_none, some_same, first_none, first_some}
+use Rattle.values.specs.Lists.{first_place}
 use Rattle.diagrams.specs.Rules.{Ahead}
 
 abbrev pub number : Fault → ℕ
@@ -149,6 +150,15 @@ placed {B} f o lo hi eh nf sf none some least = record {
       let s : second g ≡ w.0 = ap second w.1.1 ∙ sf w.0 in
       elim (cases_lt (number g) (number k)) [ inl less ↦ inl less | inr ge ↦ let q : number k ≡ lo = omega arith in inr (omega arith, omega (arith, least w.0 w.1.0 k q bk)) ];
 }
+
+-- a rule with places within the node, broken where the elements of a list pass
+pub placed_first : {A : Type 0} {B : Fault → Type 0} (d : A) (p : A → Bool) (xs : List A) (n i : ℕ) → ((k j : ℕ) → (number (fault n k j) ≡ n) × (second (fault n k j) ≡ j))
+    → ((j : ℕ) → j < length xs → p (get_or xs j d) ≡ true → B (fault n i j)) → ((k j : ℕ) → B (fault n k j) → (j < length xs) × (p (get_or xs j d) ≡ true)) → Judged B (option_map (λ j. fault n i j) (first_place p xs)) n (n + 1)
+placed_first {A} {B} d p xs n i named broken breaks =
+    placed (λ j. fault n i j) (first_place p xs) n (n + 1) refl (λ j. (named i j).0) (λ j. (named i j).1)
+    (λ e. only (λ (q : Fault). B q → ⊥) n (λ k j b. let w = breaks k j b in both_ways (p (get_or xs j d)) (first_none d p 0 xs e j w.0) w.1))
+    (λ j e. let w = first_some d p xs e in broken j w.within w.here)
+    (λ j e. only (λ (q : Fault). B q → j ≤ second q) n (λ k m b. let w = breaks k m b in let f = first_some d p xs e in let s = (named k m).1 in grind (arith, f.earlier m)))
 
 -- one of two checks, by a test
 pub by_test : {B : Fault → Type 0} (b : Bool) (x y : Option Fault) (lo hi : ℕ) → (b ≡ true → Judged B x lo hi) → (b ≡ false → Judged B y lo hi) → Judged B (cond b x y) lo hi

@@ -1,11 +1,11 @@
 -- The law of admission: the rules of a node one by one, then of all nodes.
-use Rattle.std.proofs.Common.{◌≡◌, ℕ, zero, suc, ◌+◌, ◌*◌, ◌<◌, ◌≤◌, Bool, true, false, ◌||◌, eqb, ltb, leb, ◌⊎◌, List, [], ◌∷◌, length, get_or, is_some, Some, None, Option, sym, refl, ap, ◌∙◌, subst, inl, inr, le_of_suc-le-suc, not-suc-le-zero, arith}
+use Rattle.std.proofs.Common.{◌≡◌, ℕ, zero, suc, ◌+◌, ◌*◌, ◌<◌, ◌≤◌, Bool, true, false, ◌||◌, eqb, ltb, ◌⊎◌, List, [], ◌∷◌, length, get_or, is_some, Some, None, Option, sym, refl, ◌∙◌, subst, inl, inr, le_of_suc-le-suc, not-suc-le-zero, arith}
 use Rattle.std.specs.Option.{option_or}
 use Rattle.std.specs.List.{slice_get}
 use Rattle.std.proofs.lemmas.List.{length-take, length-drop}
-use Rattle.std.proofs.lemmas.Bool.{cases_lt, cases_Bool, cases_eq, ltb-true, ltb-false, lt-ltb, le-ltb, leb-true, leb-false, eqb-true, eqb-false, eq-eqb, or_cases, or_parts, and_parts, and_from, both_ways, not-false}
+use Rattle.std.proofs.lemmas.Bool.{cases_lt, ltb-true, ltb-false, eqb-true, eqb-false, or_cases, or_parts, both_ways, not-false}
 use Rattle.std.proofs.lemmas.Bool.Decides.{nat_tests}
-use Rattle.values.specs.Lists.{any, all, first_place}
+use Rattle.values.specs.Lists.{any, all}
 use Rattle.values.specs.Rows.{Row}
 use Rattle.values.specs.Releases.{release_row}
 use Rattle.values.specs.Texts.{text_bytes}
@@ -14,7 +14,7 @@ use Rattle.values.specs.Keys.{version_keys, version_key_of, string_keys, string_
 use Rattle.values.specs.Faults.{refusal}
 use Rattle.values.specs.declared.faults.Fault.{Fault}
 use Rattle.values.specs.declared.faults.Fault.TheVariants.{ReleaseCount, NumberTooLarge, TextTooLong, TooManyNodes, UnknownKind, KeyOutOfRange, ExtraNotNormal, EdgeCount, EdgesPastEnd, ChildTooLarge, EmptyRange, Uncovered, OneChild, UnknownId, HostTextTooLong, NameNotNormal, PathFull, ClausesFull}
-use Rattle.values.proofs.Firsts.{some_none, some_same, first_none, first_some}
+use Rattle.values.proofs.Firsts.{some_none, some_same}
 use Rattle.values.proofs.Naming.{normal_says}
 use Rattle.ranges.specs.Bounds.{empty_edge}
 use Rattle.ranges.specs.Cover.{no_edge, Gap, cover, uncovered}
@@ -26,7 +26,7 @@ use Rattle.diagrams.specs.Admission.{most_nodes, least_edges, most_edges, key_re
 use Rattle.diagrams.specs.Rules.{children, AllEqual, EmptyAt, Breaks, Broken, too_many, at_node, First, Refuses, SoundEdges, SoundNode, Sound}
 use Rattle.diagrams.specs.declared.rows.Node.{Node}
 use Rattle.diagrams.proofs.Checks.{few, many}
-use Rattle.diagrams.proofs.Judge.{number, second, only, Judged, later, then, one, nothing, alone, flag, placed, by_test}
+use Rattle.diagrams.proofs.Judge.{number, second, only, Judged, later, then, one, nothing, alone, flag, placed, placed_first, by_test}
 
 -- ---- lists of child ids
 
@@ -59,14 +59,7 @@ pub record SaysChildren (B : Fault → Type 0) (i : ℕ) (cs : List ℕ) : Type 
 
 judge_children : (B : Fault → Type 0) (i : ℕ) (cs : List ℕ) → SaysChildren B i cs → Judged B (child_refusal i cs) 10 11
 judge_children B i cs s =
-    placed (λ j. ChildTooLarge i j) (first_place (too_large i) cs) 10 11 refl (λ j. refl) (λ j. refl)
-    (λ e. only (λ (q : Fault). B q → ⊥) 10
-    (λ k j b. let w = s.large_only k j b in let small = leb-false (2 * (i + 1)) (get_or cs j 0) (first_none 0 (too_large i) 0 cs e j w.0) in let big = w.1 in omega arith))
-    (λ j e. let w = first_some 0 (too_large i) cs e in s.large j w.within (leb-true (2 * (i + 1)) (get_or cs j 0) w.here))
-    (λ j e. let w = first_some 0 (too_large i) cs e in
-    only (λ (q : Fault). B q → j ≤ second q) 10
-    (λ k m b. elim (cases_lt m j)
-    [ inl lt ↦ let big = (s.large_only k m b).1 in let small = leb-false (2 * (i + 1)) (get_or cs m 0) (w.earlier m lt) in absurd (omega arith) | inr ge ↦ ge ]))
+    placed_first 0 (too_large i) cs 10 i (λ k j. (refl, refl)) (λ j lt e. s.large j lt (grind (arith, nat_tests))) (λ k j b. let w = s.large_only k j b in (w.0, grind (arith, nat_tests)))
 
 judge_same : (B : Fault → Type 0) (i : ℕ) (cs : List ℕ) → SaysChildren B i cs → Judged B (same_refusal i cs) 13 14
 judge_same B i cs s =
@@ -86,13 +79,7 @@ pub record SaysEdges {T : Type 0} (row : T → Row) (B : Fault → Type 0) (i : 
 
 module _ {T : Type 0} (row : T → Row) (B : Fault → Type 0) (i : ℕ) (es : List (Edge T)) (s : SaysEdges row B i es) where
   judge_ranges : Judged B (range_refusal row i es) 11 12
-  judge_ranges =
-      placed (λ j. EmptyRange i j) (first_place (empty_edge row) es) 11 12 refl (λ j. refl) (λ j. refl)
-      (λ e. only (λ (q : Fault). B q → ⊥) 11 (λ k j b. let w = s.hollow_only k j b in both_ways (empty_edge row (get_or es j no_edge)) (first_none no_edge (empty_edge row) 0 es e j w.0) w.1))
-      (λ j e. let w = first_some no_edge (empty_edge row) es e in s.hollow j (w.within, w.here))
-      (λ j e. let w = first_some no_edge (empty_edge row) es e in
-      only (λ (q : Fault). B q → j ≤ second q) 11
-      (λ k m b. elim (cases_lt m j) [ inl lt ↦ absurd (both_ways (empty_edge row (get_or es m no_edge)) (w.earlier m lt) (s.hollow_only k m b).1) | inr ge ↦ ge ]))
+  judge_ranges = placed_first no_edge (empty_edge row) es 11 i (λ k j. (refl, refl)) (λ j lt e. s.hollow j (lt, e)) s.hollow_only
 
   judge_cover : 0 < length es → Judged B (cover_refusal row i es) 12 13
   judge_cover some =
