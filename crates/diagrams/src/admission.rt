@@ -31,6 +31,26 @@ fn is_too_large(place: usize, child: u32) -> bool
     child as usize / 2 > place
 }
 
+// Whether one of the edges leads to another child.
+fn leads_elsewhere<T>(child: u32, edges: &[Edge<T>]) -> bool
+    ensures { result ≡ list_any (λ d. not (d == child)) (child_ids edges.now) }
+{
+    edges
+        .iter()
+        .map(|edge| edge.child)
+        .any(|other| other != child)
+}
+
+// Whether two of the edges lead to different children.
+fn differ<T>(edges: &[Edge<T>]) -> bool
+    ensures { all_same (child_ids edges.now) ≡ not result }
+{
+    match edges {
+        [first, rest @ ..] => leads_elsewhere(first.child, rest),
+        [] => false,
+    }
+}
+
 // The edges of the node at a place.
 #[derive(Drop)]
 struct EdgesAt<'a, T> {
@@ -38,7 +58,7 @@ struct EdgesAt<'a, T> {
     edges: &'a [Edge<T>],
 }
 
-impl<T> EdgesAt<'_, T> {
+impl<T: Order> EdgesAt<'_, T> {
     // The first edge whose child is too large.
     fn first_too_large(&self) -> Option<usize>
         ensures { result ≡ position (too_large self.now.place) (child_ids self.now.edges.now) }
@@ -60,39 +80,6 @@ impl<T> EdgesAt<'_, T> {
             .map_or(Ok(()), |child| Err(Fault::ChildTooLarge { node, child }))
     }
 
-    // Refusal 13.
-    fn check_difference(&self) -> Result<(), Fault>
-        ensures { result_err result ≡ same_refusal self.now.place (child_ids self.now.edges.now) }
-    {
-        if differ(self.edges) {
-            Ok(())
-        } else {
-            Err(Fault::OneChild { node: self.place })
-        }
-    }
-}
-
-// Whether one of the edges leads to another child.
-fn leads_elsewhere<T>(child: u32, edges: &[Edge<T>]) -> bool
-    ensures { result ≡ list_any (λ d. not (d == child)) (child_ids edges.now) }
-{
-    edges
-        .iter()
-        .map(|edge| edge.child)
-        .any(|other| other != child)
-}
-
-// Whether two of the edges lead to different children.
-fn differ<T>(edges: &[Edge<T>]) -> bool
-    ensures { all_same (child_ids edges.now) ≡ not result }
-{
-    match edges {
-        [first, rest @ ..] => leads_elsewhere(first.child, rest),
-        [] => false,
-    }
-}
-
-impl<T: Order> EdgesAt<'_, T> {
     // Refusal 11.
     fn check_ranges(&self) -> Result<(), Fault>
         ensures { result_err result ≡ range_refusal T.Order.row self.now.place self.now.edges.now }
@@ -107,6 +94,17 @@ impl<T: Order> EdgesAt<'_, T> {
     {
         let node = self.place;
         uncovered_edge(self.edges).map_or(Ok(()), |edge| Err(Fault::Uncovered { node, edge }))
+    }
+
+    // Refusal 13.
+    fn check_difference(&self) -> Result<(), Fault>
+        ensures { result_err result ≡ same_refusal self.now.place (child_ids self.now.edges.now) }
+    {
+        if differ(self.edges) {
+            Ok(())
+        } else {
+            Err(Fault::OneChild { node: self.place })
+        }
     }
 
     // Refusals 10 to 13.
