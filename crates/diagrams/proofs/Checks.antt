@@ -1,21 +1,12 @@
 -- The words of lists in the checks, and when there are too many nodes.
 use Rattle.std.proofs.Common.{◌≡◌, ℕ, ◌+◌, ◌-◌, ◌<◌, ◌≤◌, Bool, true, false, cond, not, ◌&&◌, ◌||◌, eqb, ltb, List, [], ◌∷◌, length, get_or, take, drop, Some, sym, refl, ap, ◌∙◌, arith}
-use Rattle.std.specs.List.{position, position_from, list_any, list_all}
-use Rattle.std.proofs.lemmas.Iterator.Adapters.{position_from-zero}
+use Rattle.std.specs.List.{list_any, list_all}
 use Rattle.std.proofs.lemmas.List.{take_rest}
 use Rattle.std.proofs.lemmas.Bool.Decides.{nat_tests}
 use Rattle.values.specs.declared.faults.Fault.TheVariants.{TooManyNodes}
 use Rattle.ranges.specs.declared.edges.Edge.{Edge}
 use Rattle.diagrams.specs.Tables.{Table, child_ids}
 use Rattle.diagrams.specs.Admission.{all_same, nodes_refusal, most_nodes, first_refusal}
-
-first_from_is : {A : Type 0} (p : A → Bool) (i : ℕ) (xs : List A) → position_from p i xs ≡ position_from p i xs
-first_from_is p i [] = refl
-first_from_is p i (x ∷ xs) = ap (cond (p x) (Some i)) (first_from_is p (i + 1) xs)
-
--- the first place is what `position` gives
-pub first_is_position : {A : Type 0} (p : A → Bool) (xs : List A) → position_from p 0 xs ≡ position p xs
-first_is_position p xs = first_from_is p 0 xs ∙ sym (position_from-zero p xs)
 
 -- all are one, unless some is another
 all_or_other : (c : ℕ) (cs : List ℕ) → list_all (λ d. eqb d c) cs ≡ not (list_any (λ d. not (eqb d c)) cs)

@@ -1,11 +1,12 @@
 -- Which of several checks finds the first broken rule: judgements of checks, one behind another.
-use Rattle.std.proofs.Common.{◌≡◌, ℕ, ◌+◌, ◌<◌, ◌≤◌, Bool, true, false, cond, Some, None, Option, sym, refl, ap, ◌∙◌, subst, inl, inr, arith}
+use Rattle.std.proofs.Common.{◌≡◌, ℕ, ◌+◌, ◌<◌, ◌≤◌, Bool, true, false, cond, eqb, List, length, get_or, Some, None, Option, sym, refl, ap, ◌∙◌, subst, inl, inr, arith}
 use Rattle.std.specs.Option.{option_or, option_map}
-use Rattle.std.proofs.lemmas.Bool.{cases_lt, cases_eq}
+use Rattle.std.proofs.lemmas.Bool.{cases_lt, cases_eq, both_ways}
 use Rattle.values.specs.Faults.{refusal}
 use Rattle.values.specs.declared.faults.Fault.{Fault}
 use Rattle.values.specs.declared.faults.Fault.TheVariants.{ReleaseCount, NumberTooLarge, TextTooLong, TooManyNodes, UnknownKind, KeyOutOfRange, ExtraNotNormal, EdgeCount, EdgesPastEnd, ChildTooLarge, EmptyRange, Uncovered, OneChild, UnknownId, HostTextTooLong, NameNotNormal, PathFull, ClausesFull}
-use Rattle.values.proofs.Firsts.{some_none, some_same}
+use Rattle.values.proofs.Firsts.{some_none, some_same, first_none, first_some}
+use Rattle.std.specs.List.{position_from}
 use Rattle.diagrams.specs.Rules.{Ahead}
 
 abbrev pub number : Fault → ℕ
@@ -14,57 +15,52 @@ number f = (refusal f).number
 abbrev pub second : Fault → ℕ
 second f = (refusal f).second
 
--- ---- the refusals of nodes by their numbers
+-- ---- refusals by their numbers
 
-module _ (P : Fault → Type 0) (k : ℕ) where
-  by_number : (k ≡ 5 → (i : ℕ) → P (UnknownKind i)) → (k ≡ 6 → (i : ℕ) → P (KeyOutOfRange i)) → (k ≡ 7 → (i : ℕ) → P (ExtraNotNormal i)) → (k ≡ 8 → (i : ℕ) → P (EdgeCount i)) → (k ≡ 9 → (i : ℕ) → P (EdgesPastEnd i))
-      → (k ≡ 10 → (i j : ℕ) → P (ChildTooLarge i j)) → (k ≡ 11 → (i j : ℕ) → P (EmptyRange i j)) → (k ≡ 12 → (i j : ℕ) → P (Uncovered i j)) → (k ≡ 13 → (i : ℕ) → P (OneChild i))
-      → 5 ≤ k → k < 14 → (g : Fault) → number g ≡ k → P g
-  by_number a b c d e f h m n lo hi ReleaseCount s = absurd (omega arith)
-  by_number a b c d e f h m n lo hi (NumberTooLarge i) s = absurd (omega arith)
-  by_number a b c d e f h m n lo hi TextTooLong s = absurd (omega arith)
-  by_number a b c d e f h m n lo hi TooManyNodes s = absurd (omega arith)
-  by_number a b c d e f h m n lo hi (UnknownKind i) s = a (sym s) i
-  by_number a b c d e f h m n lo hi (KeyOutOfRange i) s = b (sym s) i
-  by_number a b c d e f h m n lo hi (ExtraNotNormal i) s = c (sym s) i
-  by_number a b c d e f h m n lo hi (EdgeCount i) s = d (sym s) i
-  by_number a b c d e f h m n lo hi (EdgesPastEnd i) s = e (sym s) i
-  by_number a b c d e f h m n lo hi (ChildTooLarge i j) s = f (sym s) i j
-  by_number a b c d e f h m n lo hi (EmptyRange i j) s = h (sym s) i j
-  by_number a b c d e f h m n lo hi (Uncovered i j) s = m (sym s) i j
-  by_number a b c d e f h m n lo hi (OneChild i) s = n (sym s) i
-  by_number a b c d e f h m n lo hi UnknownId s = absurd (omega arith)
-  by_number a b c d e f h m n lo hi (HostTextTooLong i) s = absurd (omega arith)
-  by_number a b c d e f h m n lo hi (NameNotNormal i) s = absurd (omega arith)
-  by_number a b c d e f h m n lo hi PathFull s = absurd (omega arith)
-  by_number a b c d e f h m n lo hi ClausesFull s = absurd (omega arith)
+-- the refusal of a number and places
+abbrev pub fault : ℕ → ℕ → ℕ → Fault
+fault n i j =
+    cond (eqb n 1) ReleaseCount
+    (cond (eqb n 2) (NumberTooLarge i)
+    (cond (eqb n 3) TextTooLong
+    (cond (eqb n 4) TooManyNodes
+    (cond (eqb n 5) (UnknownKind i)
+    (cond (eqb n 6) (KeyOutOfRange i)
+    (cond (eqb n 7) (ExtraNotNormal i)
+    (cond (eqb n 8) (EdgeCount i)
+    (cond (eqb n 9) (EdgesPastEnd i)
+    (cond (eqb n 10) (ChildTooLarge i j)
+    (cond (eqb n 11) (EmptyRange i j)
+    (cond (eqb n 12) (Uncovered i j)
+    (cond (eqb n 13) (OneChild i)
+    (cond (eqb n 14) UnknownId
+    (cond (eqb n 15) (HostTextTooLong i)
+    (cond (eqb n 16) (NameNotNormal i)
+    (cond (eqb n 17) PathFull ClausesFull))))))))))))))))
 
-pub only_5 : (P : Fault → Type 0) → ((i : ℕ) → P (UnknownKind i)) → (g : Fault) → number g ≡ 5 → P g
-only_5 P h = by_number P 5 (λ _. h) (λ e. absurd (omega arith)) (λ e. absurd (omega arith)) (λ e. absurd (omega arith)) (λ e. absurd (omega arith)) (λ e. absurd (omega arith)) (λ e. absurd (omega arith)) (λ e. absurd (omega arith)) (λ e. absurd (omega arith)) (omega arith) (omega arith)
+is_fault : (g : Fault) → fault (number g) (refusal g).first (second g) ≡ g
+is_fault ReleaseCount = refl
+is_fault (NumberTooLarge i) = refl
+is_fault TextTooLong = refl
+is_fault TooManyNodes = refl
+is_fault (UnknownKind i) = refl
+is_fault (KeyOutOfRange i) = refl
+is_fault (ExtraNotNormal i) = refl
+is_fault (EdgeCount i) = refl
+is_fault (EdgesPastEnd i) = refl
+is_fault (ChildTooLarge i j) = refl
+is_fault (EmptyRange i j) = refl
+is_fault (Uncovered i j) = refl
+is_fault (OneChild i) = refl
+is_fault UnknownId = refl
+is_fault (HostTextTooLong i) = refl
+is_fault (NameNotNormal i) = refl
+is_fault PathFull = refl
+is_fault ClausesFull = refl
 
-pub only_6 : (P : Fault → Type 0) → ((i : ℕ) → P (KeyOutOfRange i)) → (g : Fault) → number g ≡ 6 → P g
-only_6 P h = by_number P 6 (λ e. absurd (omega arith)) (λ _. h) (λ e. absurd (omega arith)) (λ e. absurd (omega arith)) (λ e. absurd (omega arith)) (λ e. absurd (omega arith)) (λ e. absurd (omega arith)) (λ e. absurd (omega arith)) (λ e. absurd (omega arith)) (omega arith) (omega arith)
-
-pub only_7 : (P : Fault → Type 0) → ((i : ℕ) → P (ExtraNotNormal i)) → (g : Fault) → number g ≡ 7 → P g
-only_7 P h = by_number P 7 (λ e. absurd (omega arith)) (λ e. absurd (omega arith)) (λ _. h) (λ e. absurd (omega arith)) (λ e. absurd (omega arith)) (λ e. absurd (omega arith)) (λ e. absurd (omega arith)) (λ e. absurd (omega arith)) (λ e. absurd (omega arith)) (omega arith) (omega arith)
-
-pub only_8 : (P : Fault → Type 0) → ((i : ℕ) → P (EdgeCount i)) → (g : Fault) → number g ≡ 8 → P g
-only_8 P h = by_number P 8 (λ e. absurd (omega arith)) (λ e. absurd (omega arith)) (λ e. absurd (omega arith)) (λ _. h) (λ e. absurd (omega arith)) (λ e. absurd (omega arith)) (λ e. absurd (omega arith)) (λ e. absurd (omega arith)) (λ e. absurd (omega arith)) (omega arith) (omega arith)
-
-pub only_9 : (P : Fault → Type 0) → ((i : ℕ) → P (EdgesPastEnd i)) → (g : Fault) → number g ≡ 9 → P g
-only_9 P h = by_number P 9 (λ e. absurd (omega arith)) (λ e. absurd (omega arith)) (λ e. absurd (omega arith)) (λ e. absurd (omega arith)) (λ _. h) (λ e. absurd (omega arith)) (λ e. absurd (omega arith)) (λ e. absurd (omega arith)) (λ e. absurd (omega arith)) (omega arith) (omega arith)
-
-pub only_10 : (P : Fault → Type 0) → ((i j : ℕ) → P (ChildTooLarge i j)) → (g : Fault) → number g ≡ 10 → P g
-only_10 P h = by_number P 10 (λ e. absurd (omega arith)) (λ e. absurd (omega arith)) (λ e. absurd (omega arith)) (λ e. absurd (omega arith)) (λ e. absurd (omega arith)) (λ _. h) (λ e. absurd (omega arith)) (λ e. absurd (omega arith)) (λ e. absurd (omega arith)) (omega arith) (omega arith)
-
-pub only_11 : (P : Fault → Type 0) → ((i j : ℕ) → P (EmptyRange i j)) → (g : Fault) → number g ≡ 11 → P g
-only_11 P h = by_number P 11 (λ e. absurd (omega arith)) (λ e. absurd (omega arith)) (λ e. absurd (omega arith)) (λ e. absurd (omega arith)) (λ e. absurd (omega arith)) (λ e. absurd (omega arith)) (λ _. h) (λ e. absurd (omega arith)) (λ e. absurd (omega arith)) (omega arith) (omega arith)
-
-pub only_12 : (P : Fault → Type 0) → ((i j : ℕ) → P (Uncovered i j)) → (g : Fault) → number g ≡ 12 → P g
-only_12 P h = by_number P 12 (λ e. absurd (omega arith)) (λ e. absurd (omega arith)) (λ e. absurd (omega arith)) (λ e. absurd (omega arith)) (λ e. absurd (omega arith)) (λ e. absurd (omega arith)) (λ e. absurd (omega arith)) (λ _. h) (λ e. absurd (omega arith)) (omega arith) (omega arith)
-
-pub only_13 : (P : Fault → Type 0) → ((i : ℕ) → P (OneChild i)) → (g : Fault) → number g ≡ 13 → P g
-only_13 P h = by_number P 13 (λ e. absurd (omega arith)) (λ e. absurd (omega arith)) (λ e. absurd (omega arith)) (λ e. absurd (omega arith)) (λ e. absurd (omega arith)) (λ e. absurd (omega arith)) (λ e. absurd (omega arith)) (λ e. absurd (omega arith)) (λ _. h) (omega arith) (omega arith)
+-- what is so of the refusals of one number
+pub only : (P : Fault → Type 0) (n : ℕ) → ((i j : ℕ) → P (fault n i j)) → (g : Fault) → number g ≡ n → P g
+only P n h g e = subst P (is_fault g) (rw e (h (refusal g).first (second g)))
 
 -- ---- judgements
 
@@ -135,12 +131,10 @@ flag true f r lo hi nf sf l bad good rest = one f lo hi (omega arith) (omega ari
 flag false f r lo hi nf sf l bad good rest = later lo (lo + 1) hi (omega arith) (λ g bg m n. good refl g (omega arith) bg) (rest refl)
 
 mapped-some : {A : Type 0} (f : ℕ → A) (o : Option ℕ) {g : A} → option_map f o ≡ Some g → (j : ℕ) × ((o ≡ Some j) × (g ≡ f j))
-mapped-some f None e = absurd (some_none (sym e))
-mapped-some f (Some j) e = (j, (refl, sym (some_same e)))
+mapped-some f o e = grind arith
 
 mapped-none : {A : Type 0} (f : ℕ → A) (o : Option ℕ) → option_map f o ≡ None → o ≡ None
-mapped-none f None e = refl
-mapped-none f (Some j) e = absurd (some_none e)
+mapped-none f o e = grind arith
 
 -- a rule with places within the node
 pub placed : {B : Fault → Type 0} (f : ℕ → Fault) (o : Option ℕ) (lo hi : ℕ) → hi ≡ lo + 1 → ((j : ℕ) → number (f j) ≡ lo) → ((j : ℕ) → second (f j) ≡ j)
@@ -157,17 +151,16 @@ placed {B} f o lo hi eh nf sf none some least = record {
       elim (cases_lt (number g) (number k)) [ inl less ↦ inl less | inr ge ↦ let q : number k ≡ lo = omega arith in inr (omega arith, omega (arith, least w.0 w.1.0 k q bk)) ];
 }
 
+-- a rule with places within the node, broken where the elements of a list pass
+pub placed_first : {A : Type 0} {B : Fault → Type 0} (d : A) (p : A → Bool) (xs : List A) (n i : ℕ) → ((k j : ℕ) → (number (fault n k j) ≡ n) × (second (fault n k j) ≡ j))
+    → ((j : ℕ) → j < length xs → p (get_or xs j d) ≡ true → B (fault n i j)) → ((k j : ℕ) → B (fault n k j) → (j < length xs) × (p (get_or xs j d) ≡ true)) → Judged B (option_map (λ j. fault n i j) (position_from p 0 xs)) n (n + 1)
+placed_first {A} {B} d p xs n i named broken breaks =
+    placed (λ j. fault n i j) (position_from p 0 xs) n (n + 1) refl (λ j. (named i j).0) (λ j. (named i j).1)
+    (λ e. only (λ (q : Fault). B q → ⊥) n (λ k j b. let w = breaks k j b in both_ways (p (get_or xs j d)) (first_none d p 0 xs e j w.0) w.1))
+    (λ j e. let w = first_some d p xs e in broken j w.within w.here)
+    (λ j e. only (λ (q : Fault). B q → j ≤ second q) n (λ k m b. let w = breaks k m b in let f = first_some d p xs e in let s = (named k m).1 in grind (arith, f.earlier m)))
+
 -- one of two checks, by a test
 pub by_test : {B : Fault → Type 0} (b : Bool) (x y : Option Fault) (lo hi : ℕ) → (b ≡ true → Judged B x lo hi) → (b ≡ false → Judged B y lo hi) → Judged B (cond b x y) lo hi
 by_test true x y lo hi p q = p refl
 by_test false x y lo hi p q = q refl
-
--- the same rules in other words
-pub reworded : {B C : Fault → Type 0} {check : Option Fault} (lo hi : ℕ) → ((g : Fault) → lo ≤ number g → B g → C g) → ((g : Fault) → lo ≤ number g → C g → B g) → Judged B check lo hi → Judged C check lo hi
-reworded lo hi to from p = record {
-  clear = λ e g cg l h. p.clear e g (from g l cg) l h;
-  found = λ f e. to f (p.from f e) (p.found f e);
-  from = p.from;
-  to = p.to;
-  first = λ f e g cg l. p.first f e g (from g l cg) l;
-}

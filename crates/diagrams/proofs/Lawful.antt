@@ -1,9 +1,9 @@
 -- The law of admission: the rules of a node one by one, then of all nodes.
-use Rattle.std.proofs.Common.{◌≡◌, ℕ, zero, suc, ◌+◌, ◌*◌, ◌<◌, ◌≤◌, Bool, true, false, ◌||◌, eqb, ltb, leb, ◌⊎◌, List, [], ◌∷◌, length, get_or, is_some, Some, None, Option, sym, refl, ap, ◌∙◌, subst, inl, inr, le_of_suc-le-suc, not-suc-le-zero, arith}
+use Rattle.std.proofs.Common.{◌≡◌, ℕ, zero, suc, ◌+◌, ◌*◌, ◌<◌, ◌≤◌, Bool, true, false, ◌||◌, eqb, ltb, ◌⊎◌, List, [], ◌∷◌, length, get_or, is_some, Some, None, Option, sym, refl, ◌∙◌, subst, inl, inr, le_of_suc-le-suc, not-suc-le-zero, arith}
 use Rattle.std.specs.Option.{option_or}
-use Rattle.std.specs.List.{slice_get, list_any, list_all, position_from}
+use Rattle.std.specs.List.{slice_get, list_any, list_all}
 use Rattle.std.proofs.lemmas.List.{length-take, length-drop}
-use Rattle.std.proofs.lemmas.Bool.{cases_lt, cases_Bool, cases_eq, ltb-true, ltb-false, lt-ltb, le-ltb, leb-true, leb-false, eqb-true, eqb-false, eq-eqb, or_cases, or_parts, and_parts, and_from, both_ways, not-false}
+use Rattle.std.proofs.lemmas.Bool.{cases_lt, ltb-true, ltb-false, eqb-true, eqb-false, or_cases, or_parts, both_ways, not-false}
 use Rattle.std.proofs.lemmas.Bool.Decides.{nat_tests}
 use Rattle.values.specs.Rows.{Row}
 use Rattle.values.specs.Releases.{release_row}
@@ -13,7 +13,7 @@ use Rattle.values.specs.Keys.{version_keys, version_key_of, string_keys, string_
 use Rattle.values.specs.Faults.{refusal}
 use Rattle.values.specs.declared.faults.Fault.{Fault}
 use Rattle.values.specs.declared.faults.Fault.TheVariants.{ReleaseCount, NumberTooLarge, TextTooLong, TooManyNodes, UnknownKind, KeyOutOfRange, ExtraNotNormal, EdgeCount, EdgesPastEnd, ChildTooLarge, EmptyRange, Uncovered, OneChild, UnknownId, HostTextTooLong, NameNotNormal, PathFull, ClausesFull}
-use Rattle.values.proofs.Firsts.{some_none, some_same, first_none, first_some}
+use Rattle.values.proofs.Firsts.{some_none, some_same}
 use Rattle.values.proofs.Naming.{normal_says}
 use Rattle.ranges.specs.Bounds.{empty_edge}
 use Rattle.ranges.specs.Cover.{no_edge, Gap, cover, uncovered}
@@ -25,23 +25,23 @@ use Rattle.diagrams.specs.Admission.{most_nodes, least_edges, most_edges, key_re
 use Rattle.diagrams.specs.Rules.{children, AllEqual, EmptyAt, Breaks, Broken, too_many, at_node, First, Refuses, SoundEdges, SoundNode, Sound}
 use Rattle.diagrams.specs.declared.rows.Node.{Node}
 use Rattle.diagrams.proofs.Checks.{few, many}
-use Rattle.diagrams.proofs.Judge.{number, second, only_5, only_6, only_7, only_8, only_9, only_10, only_11, only_12, only_13, Judged, later, then, one, nothing, alone, flag, placed, by_test}
+use Rattle.diagrams.proofs.Judge.{number, second, only, Judged, later, then, one, nothing, alone, flag, placed, placed_first, by_test}
 
 -- ---- lists of child ids
 
 equal_all : (c : ℕ) (cs : List ℕ) → list_all (λ d. eqb d c) cs ≡ true → (j : ℕ) → j < length cs → get_or cs j 0 ≡ c
-equal_all c [] a j lt = absurd (not-suc-le-zero lt)
-equal_all c (d ∷ cs) a zero lt = eqb-true d c (and_parts (eqb d c) (list_all (λ e. eqb e c) cs) a).0
-equal_all c (d ∷ cs) a (suc j) lt = equal_all c cs (and_parts (eqb d c) (list_all (λ e. eqb e c) cs) a).1 j (le_of_suc-le-suc lt)
+equal_all c [] a j lt = grind arith
+equal_all c (d ∷ cs) a zero lt = grind (arith, nat_tests)
+equal_all c (d ∷ cs) a (suc j) lt = grind (arith, nat_tests, equal_all c cs)
 
 all_equal : (c : ℕ) (cs : List ℕ) → ((j : ℕ) → j < length cs → get_or cs j 0 ≡ c) → list_all (λ d. eqb d c) cs ≡ true
 all_equal c [] h = refl
-all_equal c (d ∷ cs) h = and_from (eqb d c) (list_all (λ e. eqb e c) cs) (eq-eqb d c (h 0 (omega arith))) (all_equal c cs (λ j lt. h (suc j) (omega arith)))
+all_equal c (d ∷ cs) h = grind (arith, nat_tests, all_equal c cs (λ j lt. h (suc j) (omega arith)), h 0)
 
 same_equal : (cs : List ℕ) → all_same cs ≡ true → AllEqual cs
-same_equal [] a j lt = absurd (not-suc-le-zero lt)
+same_equal [] a j lt = grind arith
 same_equal (c ∷ cs) a zero lt = refl
-same_equal (c ∷ cs) a (suc j) lt = equal_all c cs a j (le_of_suc-le-suc lt)
+same_equal (c ∷ cs) a (suc j) lt = equal_all c cs a j (omega arith)
 
 equal_same : (cs : List ℕ) → AllEqual cs → all_same cs ≡ true
 equal_same [] h = refl
@@ -58,20 +58,13 @@ pub record SaysChildren (B : Fault → Type 0) (i : ℕ) (cs : List ℕ) : Type 
 
 judge_children : (B : Fault → Type 0) (i : ℕ) (cs : List ℕ) → SaysChildren B i cs → Judged B (child_refusal i cs) 10 11
 judge_children B i cs s =
-    placed (λ j. ChildTooLarge i j) (position_from (too_large i) 0 cs) 10 11 refl (λ j. refl) (λ j. refl)
-    (λ e. only_10 (λ (q : Fault). B q → ⊥)
-    (λ k j b. let w = s.large_only k j b in let small = leb-false (2 * (i + 1)) (get_or cs j 0) (first_none 0 (too_large i) 0 cs e j w.0) in let big = w.1 in omega arith))
-    (λ j e. let w = first_some 0 (too_large i) cs e in s.large j w.within (leb-true (2 * (i + 1)) (get_or cs j 0) w.here))
-    (λ j e. let w = first_some 0 (too_large i) cs e in
-    only_10 (λ (q : Fault). B q → j ≤ second q)
-    (λ k m b. elim (cases_lt m j)
-    [ inl lt ↦ let big = (s.large_only k m b).1 in let small = leb-false (2 * (i + 1)) (get_or cs m 0) (w.earlier m lt) in absurd (omega arith) | inr ge ↦ ge ]))
+    placed_first 0 (too_large i) cs 10 i (λ k j. (refl, refl)) (λ j lt e. s.large j lt (grind (arith, nat_tests))) (λ k j b. let w = s.large_only k j b in (w.0, grind (arith, nat_tests)))
 
 judge_same : (B : Fault → Type 0) (i : ℕ) (cs : List ℕ) → SaysChildren B i cs → Judged B (same_refusal i cs) 13 14
 judge_same B i cs s =
     flag (all_same cs) (OneChild i) None 13 14 refl refl (omega arith)
     (λ e. s.same (same_equal cs e))
-    (λ e. only_13 (λ (q : Fault). B q → ⊥) (λ k b. both_ways (all_same cs) e (equal_same cs (s.same_only k b))))
+    (λ e. only (λ (q : Fault). B q → ⊥) 13 (λ k j b. both_ways (all_same cs) e (equal_same cs (s.same_only k b))))
     (λ e. nothing 14 14 (λ g l h b. omega arith))
 
 -- ---- rules 10 to 13, of a node's own edges
@@ -85,21 +78,15 @@ pub record SaysEdges {T : Type 0} (row : T → Row) (B : Fault → Type 0) (i : 
 
 module _ {T : Type 0} (row : T → Row) (B : Fault → Type 0) (i : ℕ) (es : List (Edge T)) (s : SaysEdges row B i es) where
   judge_ranges : Judged B (range_refusal row i es) 11 12
-  judge_ranges =
-      placed (λ j. EmptyRange i j) (position_from (empty_edge row) 0 es) 11 12 refl (λ j. refl) (λ j. refl)
-      (λ e. only_11 (λ (q : Fault). B q → ⊥) (λ k j b. let w = s.hollow_only k j b in both_ways (empty_edge row (get_or es j no_edge)) (first_none no_edge (empty_edge row) 0 es e j w.0) w.1))
-      (λ j e. let w = first_some no_edge (empty_edge row) es e in s.hollow j (w.within, w.here))
-      (λ j e. let w = first_some no_edge (empty_edge row) es e in
-      only_11 (λ (q : Fault). B q → j ≤ second q)
-      (λ k m b. elim (cases_lt m j) [ inl lt ↦ absurd (both_ways (empty_edge row (get_or es m no_edge)) (w.earlier m lt) (s.hollow_only k m b).1) | inr ge ↦ ge ]))
+  judge_ranges = placed_first no_edge (empty_edge row) es 11 i (λ k j. (refl, refl)) (λ j lt e. s.hollow j (lt, e)) s.hollow_only
 
   judge_cover : 0 < length es → Judged B (cover_refusal row i es) 12 13
   judge_cover some =
       let p = gaps.placed row es (uncovered row es) refl in
       placed (λ j. Uncovered i j) (uncovered row es) 12 13 refl (λ j. refl) (λ j. refl)
-      (λ e. only_12 (λ (q : Fault). B q → ⊥) (λ k j b. p.none e j (s.gap_only k j b)))
+      (λ e. only (λ (q : Fault). B q → ⊥) 12 (λ k j b. p.none e j (s.gap_only k j b)))
       (λ j e. s.gap j (p.gap j e some))
-      (λ j e. only_12 (λ (q : Fault). B q → j ≤ second q) (λ k m b. p.first j e m (s.gap_only k m b)))
+      (λ j e. only (λ (q : Fault). B q → j ≤ second q) 12 (λ k m b. p.first j e m (s.gap_only k m b)))
 
   judge_own : 0 < length es → Judged B (own_refusal row i es) 10 14
   judge_own some =
@@ -123,8 +110,8 @@ judge_ranged : {T : Type 0} (row : T → Row) (B : Fault → Type 0) (i : ℕ) (
 judge_ranged row B i n es s =
     flag (wrong_edges n) (EdgeCount i) _ 8 14 refl refl (omega arith)
     (λ e. s.wrong (elim (or_cases (ltb n.count least_edges) (ltb most_edges n.count) e) [ inl a ↦ inl (ltb-true n.count least_edges a) | inr b ↦ inr (ltb-true most_edges n.count b) ]))
-    (λ e. only_8 (λ (q : Fault). B q → ⊥)
-    (λ k b.
+    (λ e. only (λ (q : Fault). B q → ⊥) 8
+    (λ k j b.
     let p = or_parts (ltb n.count least_edges) (ltb most_edges n.count) e in
     let least = ltb-false n.count least_edges p.0 in
     let most = ltb-false most_edges n.count p.1 in
@@ -134,7 +121,7 @@ judge_ranged row B i n es s =
     let least = ltb-false n.count least_edges p.0 in
     flag (ltb (length es) (n.first + n.count)) (EdgesPastEnd i) _ 9 14 refl refl (omega arith)
     (λ e. s.past (ltb-true (length es) (n.first + n.count) e))
-    (λ e. only_9 (λ (q : Fault). B q → ⊥) (λ k b. let a = ltb-false (length es) (n.first + n.count) e in let c = s.past_only k b in omega arith))
+    (λ e. only (λ (q : Fault). B q → ⊥) 9 (λ k j b. let a = ltb-false (length es) (n.first + n.count) e in let c = s.past_only k b in omega arith))
     (λ e₂.
     let within = ltb-false (length es) (n.first + n.count) e₂ in
     let long = own_long es n within in
@@ -161,12 +148,9 @@ judge_branches B i h l s lo b none =
 -- ---- the rules of a node, by its kind
 
 pub nth_some : {K : Type 0} (ks : List K) (n : ℕ) → is_some (slice_get ks n) ≡ ltb n (length ks)
-nth_some [] n = sym (le-ltb n 0 (omega arith))
-nth_some (k ∷ ks) zero = sym (lt-ltb 0 (length (k ∷ ks)) (omega arith))
-nth_some (k ∷ ks) (suc n) = nth_some ks n ∙ shifted n (length ks)
-  where
-    shifted : (a b : ℕ) → ltb a b ≡ ltb (suc a) (suc b)
-    shifted a b = grind (arith, nat_tests)
+nth_some [] n = grind (arith, nat_tests)
+nth_some (k ∷ ks) zero = grind (arith, nat_tests)
+nth_some (k ∷ ks) (suc n) = grind (arith, nat_tests, nth_some ks n)
 
 module _ (t : Table) (i : ℕ) (n : Node) where
   abbrev B : Fault → Type 0
@@ -184,33 +168,27 @@ module _ (t : Table) (i : ℕ) (n : Node) where
   says cs low e = subst (λ (ds : List ℕ). SaysChildren B i ds) e (says_all low)
 
   pub release_ids : n.kind ≡ 0 → children t n ≡ child_ids (own t.releases n)
-  release_ids e = let a : leb n.kind 0 ≡ true = grind (arith, nat_tests) in rw a
+  release_ids e = grind (arith, nat_tests)
 
   pub text_ids : n.kind ≡ 1 → children t n ≡ child_ids (own t.texts n)
-  text_ids e =
-      let a : leb n.kind 0 ≡ false = grind (arith, nat_tests) in
-      let b : leb n.kind 1 ≡ true = grind (arith, nat_tests) in
-      rw (a, b)
+  text_ids e = grind (arith, nat_tests)
 
   pub branch_ids : 2 ≤ n.kind → children t n ≡ n.high ∷ n.low ∷ []
-  branch_ids e =
-      let a : leb n.kind 0 ≡ false = grind (arith, nat_tests) in
-      let b : leb n.kind 1 ≡ false = grind (arith, nat_tests) in
-      rw (a, b)
+  branch_ids e = grind (arith, nat_tests)
 
   says_releases : n.kind ≡ 0 → SaysRanged release_row B i n t.releases
   says_releases z = record {
     edges_of_own = record {
       ids = says (child_ids (own t.releases n)) (omega arith) (release_ids z);
       hollow = λ j h. (refl, inl (z, h));
-      hollow_only = λ k j b. elim b.1 [ inl p ↦ p.1 | inr p ↦ absurd (let o = p.0 in omega arith) ];
+      hollow_only = λ k j b. grind arith;
       gap = λ j h. (refl, inl (z, h));
-      gap_only = λ k j b. elim b.1 [ inl p ↦ p.1 | inr p ↦ absurd (let o = p.0 in omega arith) ];
+      gap_only = λ k j b. grind arith;
     };
     wrong = λ h. (refl, omega arith, h);
     wrong_only = λ k b. b.2;
     past = λ h. (refl, inl (z, h));
-    past_only = λ k b. elim b.1 [ inl p ↦ p.1 | inr p ↦ absurd (let o = p.0 in omega arith) ];
+    past_only = λ k b. grind arith;
   }
 
   says_texts : n.kind ≡ 1 → SaysRanged text_bytes B i n t.texts
@@ -218,64 +196,55 @@ module _ (t : Table) (i : ℕ) (n : Node) where
     edges_of_own = record {
       ids = says (child_ids (own t.texts n)) (omega arith) (text_ids z);
       hollow = λ j h. (refl, inr (z, h));
-      hollow_only = λ k j b. elim b.1 [ inl p ↦ absurd (let o = p.0 in omega arith) | inr p ↦ p.1 ];
+      hollow_only = λ k j b. grind arith;
       gap = λ j h. (refl, inr (z, h));
-      gap_only = λ k j b. elim b.1 [ inl p ↦ absurd (let o = p.0 in omega arith) | inr p ↦ p.1 ];
+      gap_only = λ k j b. grind arith;
     };
     wrong = λ h. (refl, omega arith, h);
     wrong_only = λ k b. b.2;
     past = λ h. (refl, inr (z, h));
-    past_only = λ k b. elim b.1 [ inl p ↦ absurd (let o = p.0 in omega arith) | inr p ↦ p.1 ];
+    past_only = λ k b. grind arith;
   }
 
   -- which rules a kind does not know
   no_kind : n.kind ≤ 5 → (g : Fault) → number g ≡ 5 → B g → ⊥
-  no_kind low = only_5 (λ (q : Fault). B q → ⊥) (λ k b. let x = b.1 in omega arith)
+  no_kind low = only (λ (q : Fault). B q → ⊥) 5 (λ k j b. let x = b.1 in omega arith)
 
   no_key : 4 ≤ n.kind → (g : Fault) → number g ≡ 6 → B g → ⊥
-  no_key high = only_6 (λ (q : Fault). B q → ⊥) (λ k b. elim b.1 [ inl p ↦ let x = p.0 in omega arith | inr p ↦ let x = p.1 in omega arith ])
+  no_key high = only (λ (q : Fault). B q → ⊥) 6 (λ k j b. grind arith)
 
   no_name : (n.kind ≡ 4 → ⊥) → (g : Fault) → number g ≡ 7 → B g → ⊥
-  no_name ne = only_7 (λ (q : Fault). B q → ⊥) (λ k b. ne b.1)
+  no_name ne = only (λ (q : Fault). B q → ⊥) 7 (λ k j b. ne b.1)
 
   no_edges : 2 ≤ n.kind → (g : Fault) → 8 ≤ number g → number g < 13 → (number g ≡ 10 → ⊥) → B g → ⊥
   no_edges high g l h ne b =
-      elim (cases_eq (number g) 8) [
-        | inl e ↦ only_8 (λ (q : Fault). B q → ⊥) (λ k x. let y = x.1 in omega arith) g e b
-        | inr n8 ↦ elim (cases_eq (number g) 9) [
-          | inl e ↦ only_9 (λ (q : Fault). B q → ⊥) (λ k x. two x.1) g e b
-          | inr n9 ↦ elim (cases_eq (number g) 11) [
-            | inl e ↦ only_11 (λ (q : Fault). B q → ⊥) (λ k j x. two x.1) g e b
-            | inr n11 ↦ only_12 (λ (q : Fault). B q → ⊥) (λ k j x. two x.1) g (omega arith) b
-          ]
-        ]
-      ]
-    where
-      two : {P Q : Type 0} → ((n.kind ≡ 0) × P) ⊎ ((n.kind ≡ 1) × Q) → ⊥
-      two (inl p) = let x = p.0 in omega arith
-      two (inr p) = let x = p.0 in omega arith
+      let n8 = only (λ (q : Fault). B q → ⊥) 8 (λ k j x. grind arith) g in
+      let n9 = only (λ (q : Fault). B q → ⊥) 9 (λ k j x. grind arith) g in
+      let n11 = only (λ (q : Fault). B q → ⊥) 11 (λ k j x. grind arith) g in
+      let n12 = only (λ (q : Fault). B q → ⊥) 12 (λ k j x. grind arith) g in
+      grind (arith, n8, n9, n11, n12)
 
   -- rule 6, where the kind takes the keys ks
   judge_key : {K : Type 0} (ks : List K) (m : ℕ) → length ks ≡ m + 1 → n.kind ≤ 3 → (m < n.key → B (KeyOutOfRange i)) → ((k : ℕ) → B (KeyOutOfRange k) → m < n.key) → Judged B (key_refusal i (is_some (slice_get ks n.key))) 5 8
-  judge_key ks m long low bad only =
+  judge_key ks m long low bad bad_only =
       alone (is_some (slice_get ks n.key)) (KeyOutOfRange i) 5 8 (omega arith) (omega arith) refl
       (λ e. let x = ltb-false n.key (length ks) (sym (nth_some ks n.key) ∙ e) in bad (omega arith))
-      (λ e. only_6 (λ (q : Fault). B q → ⊥) (λ k b. let x = ltb-true n.key (length ks) (sym (nth_some ks n.key) ∙ e) in let y = only k b in omega arith))
-      (λ g l h ne b. elim (cases_eq (number g) 5) [ inl e ↦ no_kind (omega arith) g e b | inr n5 ↦ no_name (λ e. omega arith) g (omega arith) b ])
+      (λ e. only (λ (q : Fault). B q → ⊥) 6 (λ k j b. let x = ltb-true n.key (length ks) (sym (nth_some ks n.key) ∙ e) in let y = bad_only k b in omega arith))
+      (λ g l h ne b. let n5 = no_kind (omega arith) g in let n7 = no_name (λ e. omega arith) g in grind (arith, n5, n7))
 
   version_rule : n.kind ≡ 0 → Judged B (key_refusal i (is_some (version_key_of n.key))) 5 8
-  version_rule z = judge_key version_keys 2 refl (omega arith) (λ h. (refl, inl (z, h))) (λ k b. elim b.1 [ inl p ↦ p.1 | inr p ↦ absurd (let x = p.0 in omega arith) ])
+  version_rule z = judge_key version_keys 2 refl (omega arith) (λ h. (refl, inl (z, h))) (λ k b. grind arith)
 
   string_rule : 1 ≤ n.kind → n.kind ≤ 3 → Judged B (key_refusal i (is_some (string_key_of n.key))) 5 8
-  string_rule some low = judge_key string_keys 13 refl low (λ h. (refl, inr (some, low, h))) (λ k b. elim b.1 [ inl p ↦ absurd (let x = p.0 in omega arith) | inr p ↦ p.2 ])
+  string_rule some low = judge_key string_keys 13 refl low (λ h. (refl, inr (some, low, h))) (λ k b. grind arith)
 
   name_rule : n.kind ≡ 4 → Judged B (name_refusal i n.literal) 5 8
   name_rule four =
       let named = normal_says (text_bytes n.literal) in
       alone (normal_name (text_bytes n.literal)) (ExtraNotNormal i) 5 8 (omega arith) (omega arith) refl
       (λ e. (refl, four, λ normal. both_ways (normal_name (text_bytes n.literal)) e (named.1 normal)))
-      (λ e. only_7 (λ (q : Fault). B q → ⊥) (λ k b. b.2 (named.0 e)))
-      (λ g l h ne b. elim (cases_eq (number g) 5) [ inl e ↦ no_kind (omega arith) g e b | inr n5 ↦ no_key (omega arith) g (omega arith) b ])
+      (λ e. only (λ (q : Fault). B q → ⊥) 7 (λ k j b. b.2 (named.0 e)))
+      (λ g l h ne b. let n5 = no_kind (omega arith) g in let n6 = no_key (omega arith) g in grind (arith, n5, n6))
 
   branches : (lo : ℕ) → lo ≤ 10 → 2 ≤ n.kind → n.kind ≤ 5 → ((g : Fault) → lo ≤ number g → number g < 8 → B g → ⊥) → Judged B (branches_refusal i n.high n.low) lo 14
   branches lo le high low none =
@@ -291,7 +260,7 @@ module _ (t : Table) (i : ℕ) (n : Node) where
       (λ e. let z = eqb-true n.kind 1 e in then (key_refusal i (is_some (string_key_of n.key))) (ranged_refusal text_bytes i n t.texts) 5 8 14 (omega arith) (omega arith) (string_rule (omega arith) (omega arith)) (judge_ranged text_bytes B i n t.texts (says_texts z)))
       (λ e₁. let n1 = eqb-false n.kind 1 e₁ in
       by_test (eqb n.kind 2 || eqb n.kind 3) _ _ 5 14
-      (λ e. let low : n.kind ≤ 3 = elim (or_cases (eqb n.kind 2) (eqb n.kind 3) e) [ inl a ↦ let x = eqb-true n.kind 2 a in omega arith | inr b ↦ let x = eqb-true n.kind 3 b in omega arith ] in
+      (λ e. let low : n.kind ≤ 3 = grind (arith, nat_tests) in
       then (key_refusal i (is_some (string_key_of n.key))) (branches_refusal i n.high n.low) 5 8 14 (omega arith) (omega arith) (string_rule (omega arith) low) (branches 8 (omega arith) (omega arith) (omega arith) (λ g l h b. omega arith)))
       (λ e₂.
       let p = or_parts (eqb n.kind 2) (eqb n.kind 3) e₂ in
@@ -306,10 +275,10 @@ module _ (t : Table) (i : ℕ) (n : Node) where
     where
       no_other : n.kind ≡ 5 → (g : Fault) → 5 ≤ number g → number g < 8 → B g → ⊥
       no_other z g l h b =
-          elim (cases_eq (number g) 5) [
-            | inl e ↦ no_kind (omega arith) g e b
-            | inr n5 ↦ elim (cases_eq (number g) 6) [ inl e ↦ no_key (omega arith) g e b | inr n6 ↦ no_name (λ e. omega arith) g (omega arith) b ]
-          ]
+          let n5 = no_kind (omega arith) g in
+          let n6 = no_key (omega arith) g in
+          let n7 = no_name (λ e. omega arith) g in
+          grind (arith, n5, n6, n7)
 
   -- where a broken rule lies
   pub breaks_at : (g : Fault) → B g → ((refusal g).first ≡ i) × (5 ≤ number g) × (number g < 14)
@@ -338,12 +307,10 @@ module _ (t : Table) (i : ℕ) (n : Node) where
 -- ---- all nodes
 
 or_none : (a b : Option Fault) → option_or a b ≡ None → (a ≡ None) × (b ≡ None)
-or_none None b e = (refl, e)
-or_none (Some f) b e = absurd (some_none e)
+or_none a b e = grind arith
 
 or_some : (a b : Option Fault) {f : Fault} → option_or a b ≡ Some f → (a ≡ Some f) ⊎ ((a ≡ None) × (b ≡ Some f))
-or_some None b e = inr (refl, e)
-or_some (Some g) b e = inl e
+or_some a b e = grind arith
 
 module _ (t : Table) where
   abbrev checks : ℕ → List Node → Option Fault
@@ -433,7 +400,7 @@ module _ (t : Table) where
 
 any_none : {A : Type 0} (d : A) (p : A → Bool) (xs : List A) → ((k : ℕ) → k < length xs → p (get_or xs k d) ≡ false) → list_any p xs ≡ false
 any_none d p [] h = refl
-any_none d p (x ∷ xs) h = ap (λ b. b || list_any p xs) (h 0 (omega arith)) ∙ any_none d p xs (λ k lt. h (suc k) (omega arith))
+any_none d p (x ∷ xs) h = grind (arith, any_none d p xs (λ k lt. h (suc k) (omega arith)), h 0)
 
 covers : {T : Type 0} (row : T → Row) (es : List (Edge T)) → 0 < length es → ((k : ℕ) → Gap row es k → ⊥) → cover row es ≡ true
 covers row es some none = by (uncovered row es) refl
@@ -444,40 +411,33 @@ covers row es some none = by (uncovered row es) refl
 
 sound_edges : {T : Type 0} (row : T → Row) (B : Fault → Type 0) (i : ℕ) (n : Node) (es : List (Edge T)) → SaysRanged row B i n es → ((g : Fault) → B g → ⊥) → SoundEdges row es n
 sound_edges row B i n es s none =
-    let least : least_edges ≤ n.count = elim (cases_lt n.count least_edges) [ inl lt ↦ absurd (none (EdgeCount i) (s.wrong (inl lt))) | inr ge ↦ ge ] in
-    let most : n.count ≤ most_edges = elim (cases_lt most_edges n.count) [ inl lt ↦ absurd (none (EdgeCount i) (s.wrong (inr lt))) | inr ge ↦ ge ] in
-    let within : n.first + n.count ≤ length es = elim (cases_lt (length es) (n.first + n.count)) [ inl lt ↦ absurd (none (EdgesPastEnd i) (s.past lt)) | inr ge ↦ ge ] in
+    let least : least_edges ≤ n.count = grind (arith, none (EdgeCount i), s.wrong) in
+    let most : n.count ≤ most_edges = grind (arith, none (EdgeCount i), s.wrong) in
+    let within : n.first + n.count ≤ length es = grind (arith, none (EdgesPastEnd i), s.past) in
     let long = own_long es n within in
-    let filled : list_any (empty_edge row) (own es n) ≡ false = any_none no_edge (empty_edge row) (own es n)
-    (λ k lt. elim (cases_Bool (empty_edge row (get_or (own es n) k no_edge))) [ inl e ↦ absurd (none (EmptyRange i k) (s.edges_of_own.hollow k (lt, e))) | inr f ↦ f ]) in
+    let filled : list_any (empty_edge row) (own es n) ≡ false = any_none no_edge (empty_edge row) (own es n) (λ k lt. grind (arith, none (EmptyRange i k), s.edges_of_own.hollow k)) in
     let covered : cover row (own es n) ≡ true = covers row (own es n) (omega arith) (λ k g. none (Uncovered i k) (s.edges_of_own.gap k g)) in
     record { least = least; most = most; within = within; filled = filled; covered = covered; one = parted row (own es n) filled covered }
 
 sound_node : (t : Table) (i : ℕ) (n : Node) → ((g : Fault) → Breaks t i n g → ⊥) → SoundNode t i n
 sound_node t i n none =
-    let low : n.kind ≤ 5 = elim (cases_lt 5 n.kind) [ inl lt ↦ absurd (none (UnknownKind i) (refl, lt)) | inr ge ↦ ge ] in
+    let low : n.kind ≤ 5 = grind (arith, none (UnknownKind i)) in
     record {
       kind = low;
-      version = λ z. elim (cases_lt 2 n.key) [ inl lt ↦ absurd (none (KeyOutOfRange i) (refl, inl (z, lt))) | inr ge ↦ ge ];
-      string = λ some few. elim (cases_lt 13 n.key) [ inl lt ↦ absurd (none (KeyOutOfRange i) (refl, inr (some, few, lt))) | inr ge ↦ ge ];
-      extra = λ four. elim (cases_Bool (normal_name (text_bytes n.literal))) [
-        | inl e ↦ (normal_says (text_bytes n.literal)).0 e
-        | inr e ↦ absurd (none (ExtraNotNormal i) (refl, four, λ normal. both_ways (normal_name (text_bytes n.literal)) e ((normal_says (text_bytes n.literal)).1 normal)))
-      ];
-      falls = λ j lt. elim (cases_lt (get_or (children t n) j 0) (2 * (i + 1))) [ inl less ↦ less | inr ge ↦ absurd (none (ChildTooLarge i j) (refl, low, lt, ge)) ];
+      version = λ z. grind (arith, none (KeyOutOfRange i));
+      string = λ some few. grind (arith, none (KeyOutOfRange i));
+      extra = λ four. grind (arith, none (ExtraNotNormal i), normal_says (text_bytes n.literal));
+      falls = λ j lt. grind (arith, none (ChildTooLarge i j));
       apart = λ h. none (OneChild i) (refl, low, h);
       releases = λ z. sound_edges release_row (Breaks t i n) i n t.releases (says_releases t i n z) none;
       texts = λ z. sound_edges text_bytes (Breaks t i n) i n t.texts (says_texts t i n z) none;
     }
 
-some_false : (r : Option Fault) → is_some r ≡ false → r ≡ None
-some_false None e = refl
-some_false (Some f) e = absurd (both_ways true e refl)
-
 pub sound : (t : Table) → is_some (first_refusal t) ≡ false → Sound t
 sound t a =
-    let none = (refuses t).none (some_false (first_refusal t) a) in
+    let none = (refuses t).none (grind arith) in
+    let many_nodes : most_nodes < length t.nodes → ⊥ = λ lt. none TooManyNodes (too_many lt) in
     record {
-      few = elim (cases_lt most_nodes (length t.nodes)) [ inl lt ↦ absurd (none TooManyNodes (too_many lt)) | inr ge ↦ ge ];
+      few = grind (arith, many_nodes);
       node = λ i lt. sound_node t i (get_or t.nodes i no_node) (λ g b. none g (at_node i lt b));
     }

@@ -2,5 +2,4 @@ pub mod Turning
 pub mod Checks
 pub mod Judge
 pub mod Lawful
-pub mod Shows
 pub mod Viewing

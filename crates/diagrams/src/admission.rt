@@ -1,6 +1,6 @@
 ghost use Rattle.std.specs.Prelude.{◌≡◌, ℕ, ◌+◌, ◌≤◌, Bool, List, [], length, not, ◌==◌, if◌then◌else◌, Some, None, IfOk, is_some, slice_get};
 ghost use Rattle.std.specs.Result.{result_err};
-ghost use Rattle.std.specs.List.{position, list_any};
+ghost use Rattle.std.specs.List.{position_from, list_any};
 ghost use Rattle.values.specs.declared.faults.Fault.TheVariants.{ChildTooLarge};
 ghost use Rattle.diagrams.specs.Tables.{table, held, no_table, child_ids};
 ghost use Rattle.diagrams.specs.Held.{table_of};
@@ -31,47 +31,6 @@ fn is_too_large(place: usize, child: u32) -> bool
     child as usize / 2 > place
 }
 
-// The edges of the node at a place.
-#[derive(Drop)]
-struct EdgesAt<'a, T> {
-    place: usize,
-    edges: &'a [Edge<T>],
-}
-
-impl<T> EdgesAt<'_, T> {
-    // The first edge whose child is too large.
-    fn first_too_large(&self) -> Option<usize>
-        ensures { result ≡ position (too_large self.now.place) (child_ids self.now.edges.now) }
-    {
-        let place = self.place;
-        self.edges
-            .iter()
-            .map(|edge| edge.child)
-            .position(|child| is_too_large(place, child))
-    }
-
-    // Refusal 10.
-    #[tactic(auto, using(crate::proofs::Checks::first_is_position))]
-    fn check_children(&self) -> Result<(), Fault>
-        ensures { result_err result ≡ child_refusal self.now.place (child_ids self.now.edges.now) }
-    {
-        let node = self.place;
-        self.first_too_large()
-            .map_or(Ok(()), |child| Err(Fault::ChildTooLarge { node, child }))
-    }
-
-    // Refusal 13.
-    fn check_difference(&self) -> Result<(), Fault>
-        ensures { result_err result ≡ same_refusal self.now.place (child_ids self.now.edges.now) }
-    {
-        if differ(self.edges) {
-            Ok(())
-        } else {
-            Err(Fault::OneChild { node: self.place })
-        }
-    }
-}
-
 // Whether one of the edges leads to another child.
 fn leads_elsewhere<T>(child: u32, edges: &[Edge<T>]) -> bool
     ensures { result ≡ list_any (λ d. not (d == child)) (child_ids edges.now) }
@@ -92,7 +51,34 @@ fn differ<T>(edges: &[Edge<T>]) -> bool
     }
 }
 
+// The edges of the node at a place.
+#[derive(Drop)]
+struct EdgesAt<'a, T> {
+    place: usize,
+    edges: &'a [Edge<T>],
+}
+
 impl<T: Order> EdgesAt<'_, T> {
+    // The first edge whose child is too large.
+    fn first_too_large(&self) -> Option<usize>
+        ensures { result ≡ position_from (too_large self.now.place) 0 (child_ids self.now.edges.now) }
+    {
+        let place = self.place;
+        self.edges
+            .iter()
+            .map(|edge| edge.child)
+            .position(|child| is_too_large(place, child))
+    }
+
+    // Refusal 10.
+    fn check_children(&self) -> Result<(), Fault>
+        ensures { result_err result ≡ child_refusal self.now.place (child_ids self.now.edges.now) }
+    {
+        let node = self.place;
+        self.first_too_large()
+            .map_or(Ok(()), |child| Err(Fault::ChildTooLarge { node, child }))
+    }
+
     // Refusal 11.
     fn check_ranges(&self) -> Result<(), Fault>
         ensures { result_err result ≡ range_refusal T.Order.row self.now.place self.now.edges.now }
@@ -107,6 +93,17 @@ impl<T: Order> EdgesAt<'_, T> {
     {
         let node = self.place;
         uncovered_edge(self.edges).map_or(Ok(()), |edge| Err(Fault::Uncovered { node, edge }))
+    }
+
+    // Refusal 13.
+    fn check_difference(&self) -> Result<(), Fault>
+        ensures { result_err result ≡ same_refusal self.now.place (child_ids self.now.edges.now) }
+    {
+        if differ(self.edges) {
+            Ok(())
+        } else {
+            Err(Fault::OneChild { node: self.place })
+        }
     }
 
     // Refusals 10 to 13.

@@ -1,4 +1,4 @@
-ghost use Rattle.std.specs.Prelude.{◌≡◌, ℕ, ◌/◌, ◌<◌, ◌≤◌, length, is_ok, Some, MatchOption, slice_get};
+ghost use Rattle.std.specs.Prelude.{◌≡◌, ℕ, ◌/◌, ◌<◌, ◌≤◌, length, is_ok, Some, MatchOption};
 ghost use Rattle.values.specs.Keys.{version_key_of, string_key_of};
 ghost use Rattle.diagrams.specs.Held.{table_of};
 ghost use Rattle.diagrams.specs.Rules.{SoundNode};
@@ -12,7 +12,7 @@ use crate::views::{
     EdgesMarkerTree, ExtraMarkerTree, LiteralMarkerTree, MarkerTreeKind, MarkerValueExtra,
 };
 use values::faults::Fault;
-use values::keys::Key;
+use values::keys::{Key, MarkerValueString, MarkerValueVersion};
 
 // What a node is, by its number in a row.
 #[derive(Clone, Copy)]
@@ -44,17 +44,9 @@ impl NodeKind {
     }
 }
 
-// The key of an admitted node that has one.
-fn known_key<K: Key>(number: u8) -> K
-    requires { number < length K.Key.keys }
-    ensures { Some result ≡ slice_get K.Key.keys number }
-{
-    K::from_number(number).unwrap()
-}
-
 impl<'a> Diagram<'a> {
     // What an id stands for, or refusal 14.
-    #[tactic(auto, using(crate::proofs::Shows::shows_true, crate::proofs::Shows::shows_false, crate::proofs::Shows::unknown_id, crate::proofs::Shows::shows_node, crate::proofs::Viewing::view_shows, crate::proofs::Lawful::sound))]
+    #[tactic(auto, using(crate::proofs::Viewing::view_shows), unfolding(crate::specs::Views::view))]
     pub fn kind(&self, id: NodeId) -> Result<MarkerTreeKind<'a>, Fault>
         ensures answer { shown result ≡ view (table_of self.now) id.0 }
         ensures law { Shows (table_of self.now) id.0 }
@@ -81,12 +73,12 @@ impl<'a> Diagram<'a> {
         match NodeKind::from_number(node.kind).unwrap() {
             NodeKind::Version => MarkerTreeKind::Version(EdgesMarkerTree {
                 id,
-                key: known_key(node.key),
+                key: MarkerValueVersion::from_number(node.key).unwrap(),
                 edges: own_edges(self.rows.releases, node),
             }),
             NodeKind::String => MarkerTreeKind::String(EdgesMarkerTree {
                 id,
-                key: known_key(node.key),
+                key: MarkerValueString::from_number(node.key).unwrap(),
                 edges: own_edges(self.rows.texts, node),
             }),
             NodeKind::In => MarkerTreeKind::In(literal_tree(node, high, low)),
@@ -113,7 +105,7 @@ fn literal_tree(node: &Node, high: NodeId, low: NodeId) -> LiteralMarkerTree<'_>
     ensures children { (result.high ≡ high) × (result.low ≡ low) }
 {
     LiteralMarkerTree {
-        key: known_key(node.key),
+        key: MarkerValueString::from_number(node.key).unwrap(),
         value: &node.literal,
         high,
         low,
