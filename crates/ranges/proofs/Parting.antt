@@ -10,7 +10,7 @@ use Rattle.std.specs.List.{list_any, count_by}
 use Rattle.values.specs.Rows.{Row, by_row}
 use Rattle.ranges.specs.Bounds.{unbounded, above, below, lies, empty, empty_edge, meet, HoldsNothing}
 use Rattle.ranges.specs.Cover.{go_on, Parted}
-use Rattle.values.specs.Lines.{rows_total, row_same}
+use Rattle.values.specs.Lines.{row_turns, row_through, row_alike, row_same}
 
 pub cases_order : (o : Ordering) → (o ≡ Less) ⊎ ((o ≡ Equal) ⊎ (o ≡ Greater))
 cases_order Less = inl refl
@@ -40,14 +40,14 @@ ge_lt Greater = refl
 -- where v is below x, and x not above y, v is below y
 pub less_le : (v x y : Row) → by_row v x ≡ Less → is_gt (by_row x y) ≡ false → by_row v y ≡ Less
 less_le v x y p q = elim (cases_order (by_row x y)) [
-  | inl e ↦ rows_total.trans v x y p e
+  | inl e ↦ row_through v x y p e
   | inr c ↦ elim c [ inl e ↦ ap (by_row v) (sym (row_same x y e)) ∙ p | inr e ↦ absurd (true≢false (sym (ap is_gt e) ∙ q)) ]
 ]
 
 pub le_less : (v x y : Row) → is_gt (by_row v x) ≡ false → by_row x y ≡ Less → by_row v y ≡ Less
 le_less v x y p q = elim (cases_order (by_row v x)) [
-  | inl e ↦ rows_total.trans v x y e q
-  | inr c ↦ elim c [ inl e ↦ rows_total.congr v x y e ∙ q | inr e ↦ absurd (true≢false (sym (ap is_gt e) ∙ p)) ]
+  | inl e ↦ row_through v x y e q
+  | inr c ↦ elim c [ inl e ↦ row_alike v x y e ∙ q | inr e ↦ absurd (true≢false (sym (ap is_gt e) ∙ p)) ]
 ]
 
 -- one element more is counted
@@ -60,7 +60,7 @@ module _ {T : Type 0} (row : T → Row) (v : Row) where
   wide Unbounded u h = refl
   wide (Included x) Unbounded h = or_right (is_ge (by_row v (row x))) true refl
   wide (Included x) (Included y) h = elim (cases_Bool (is_ge (by_row v (row x)))) [ inl e ↦ or_left _ _ e | inr e ↦ or_right _ _ (ap is_le (less_le v (row x) (row y) (less_if (by_row v (row x)) e) h)) ]
-  wide (Included x) (Excluded y) h = elim (cases_Bool (is_ge (by_row v (row x)))) [ inl e ↦ or_left _ _ e | inr e ↦ or_right _ _ (ap is_lt (rows_total.trans v (row x) (row y) (less_if (by_row v (row x)) e) (less_if (by_row (row x) (row y)) h))) ]
+  wide (Included x) (Excluded y) h = elim (cases_Bool (is_ge (by_row v (row x)))) [ inl e ↦ or_left _ _ e | inr e ↦ or_right _ _ (ap is_lt (row_through v (row x) (row y) (less_if (by_row v (row x)) e) (less_if (by_row (row x) (row y)) h))) ]
   wide (Excluded x) Unbounded h = or_right (is_gt (by_row v (row x))) true refl
   wide (Excluded x) (Included y) h = elim (cases_Bool (is_gt (by_row v (row x)))) [ inl e ↦ or_left _ _ e | inr e ↦ or_right _ _ (ap is_le (le_less v (row x) (row y) e (less_if (by_row (row x) (row y)) h))) ]
   wide (Excluded x) (Excluded y) h = elim (cases_Bool (is_gt (by_row v (row x)))) [ inl e ↦ or_left _ _ e | inr e ↦ or_right _ _ (ap is_lt (le_less v (row x) (row y) e (less_if (by_row (row x) (row y)) h))) ]
@@ -133,9 +133,9 @@ gt_ge Greater h = refl
 -- what is not below x, which is above y, is above y
 far : (v x y : Row) → is_ge (by_row v x) ≡ true → by_row x y ≡ Greater → by_row v y ≡ Greater
 far v x y h g =
-    let a : by_row y x ≡ Less = rows_total.antisymm y x ∙ ap ordering_reverse g in
-    let b : is_gt (by_row x v) ≡ false = ap is_gt (rows_total.antisymm x v) ∙ ge_turned (by_row v x) h in
-    rows_total.antisymm v y ∙ ap ordering_reverse (less_le y x v a b)
+    let a : by_row y x ≡ Less = row_turns x y ∙ ap ordering_reverse g in
+    let b : is_gt (by_row x v) ≡ false = ap is_gt (row_turns v x) ∙ ge_turned (by_row v x) h in
+    row_turns y v ∙ ap ordering_reverse (less_le y x v a b)
 
 not_both : (x y : Bool) → (x ≡ true → y ≡ false) → (x && y) ≡ false
 not_both true y h = h refl

@@ -4,9 +4,9 @@ use Rattle.std.specs.declared.cmp.Ordering.TheVariants.{Less, Equal, Greater}
 use Rattle.std.specs.declared.cmp.Ordering.{Ordering}
 use Rattle.std.proofs.Common.{ap, subst, ◌∙◌, inl, inr, arith}
 use Rattle.std.proofs.lemmas.List.{at_drop_more}
-use Rattle.std.specs.Cmp.{nat_cmp_total, ranks, on_total, IsTotalOrder}
+use Rattle.std.specs.Cmp.{nat_cmp_total, ranks, on_total, tied_itself, IsTotalOrder}
 use Rattle.std.specs.Cmp.Lexicographic.{slice_cmp, lists_total}
-use Rattle.std.specs.Ordering.{MatchOrdering, ordering_then, nat_cmp, on}
+use Rattle.std.specs.Ordering.{MatchOrdering, ordering_reverse, ordering_then, nat_cmp, on}
 use Rattle.values.specs.Rows.{Row, by_row}
 use Rattle.values.specs.Releases.{release_row}
 use Rattle.values.specs.Texts.{text_bytes}
@@ -21,6 +21,19 @@ row_says xs ys r h = h
 pub rows_total : IsTotalOrder by_row
 unfolding by_row
 rows_total = lists_total nat_cmp_total
+
+-- the same law by law: turned round, through a third row, in place of an equal row, and of a row with itself
+pub row_turns : (xs ys : Row) → by_row ys xs ≡ ordering_reverse (by_row xs ys)
+row_turns xs ys = rows_total.antisymm ys xs
+
+pub row_through : (xs ys zs : Row) → by_row xs ys ≡ Less → by_row ys zs ≡ Less → by_row xs zs ≡ Less
+row_through xs ys zs h k = rows_total.trans xs ys zs h k
+
+pub row_alike : (xs ys zs : Row) → by_row xs ys ≡ Equal → by_row xs zs ≡ by_row ys zs
+row_alike xs ys zs h = rows_total.congr xs ys zs h
+
+pub row_itself : (xs : Row) → by_row xs xs ≡ Equal
+row_itself xs = tied_itself rows_total xs
 
 -- releases and texts are, by their rows
 pub releases_total : IsTotalOrder (on release_row by_row)

@@ -1,11 +1,10 @@
 use Rattle.std.proofs.Common.{◌≡◌, ℕ, ◌+◌, ◌<◌, ◌≤◌, [], drop, Ordering, Equal, sym, ap, ◌∙◌, subst, arith}
-use Rattle.std.specs.Cmp.{tied_itself}
 use Rattle.std.specs.Ordering.{MatchOrdering, ordering_then, nat_cmp}
 use Rattle.std.proofs.lemmas.List.{drop_all}
 use Rattle.values.specs.Rows.{Row, by_row}
 use Rattle.values.specs.Releases.{most_numbers, release_row, number, Before, Same}
 use Rattle.values.specs.declared.releases.Release.{Release}
-use Rattle.values.specs.Lines.{row_step, rows_total, differs}
+use Rattle.values.specs.Lines.{row_step, row_itself, differs}
 use Rattle.values.proofs.Written.{length-row, row_number, release_words}
 use Rattle.values.proofs.releases.ReleaseOrd.cmp.Goals as goal
 
@@ -46,7 +45,7 @@ all_same : (a b : Release) (i : ℕ) → most_numbers ≤ i → by_row (drop i (
 all_same a b i le =
     ap (λ (xs : Row). by_row xs (drop i (release_row b))) (drop_all i (release_row a) (omega (arith, length-row a)))
     ∙ ap (by_row []) (drop_all i (release_row b) (omega (arith, length-row b)))
-    ∙ tied_itself rows_total []
+    ∙ row_itself []
 
 pub returns : goal.returns
 returns c =
