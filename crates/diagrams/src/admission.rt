@@ -87,7 +87,7 @@ impl<T: Order> EdgesAt<'_, T> {
         first_empty(self.edges).map_or(Ok(()), |edge| Err(Fault::EmptyRange { node, edge }))
     }
 
-    // Refusal 12.
+    // Refusal 12. It differs from the one above in what it calls and in its case, so that both are one line.
     fn check_cover(&self) -> Result<(), Fault>
         ensures { result_err result ≡ cover_refusal T.Order.row self.now.place self.now.edges.now }
     {

@@ -2,7 +2,7 @@ ghost use Rattle.std.specs.Prelude.{◌≡◌};
 ghost use Rattle.diagrams.specs.Ids.{opposite, turned, Negations};
 
 // What a child or a root is named by. 0 is TRUE, 1 is FALSE, 2(i + 1) is the node at place i, and an odd id is the
-// negation of the even one below it.
+// negation of the even one below it. Rows hold these numbers, so the case is in the number.
 #[derive(Clone, Copy, PartialEq, Eq)]
 pub struct NodeId(pub u32);
 

@@ -36,7 +36,7 @@ const NODE_KINDS: [NodeKind; 6] = [
 ];
 
 impl NodeKind {
-    // The kind that has a number, if one has.
+    // The kind that has a number, if one has. A kind has no name, and so is no `Key`.
     pub(crate) fn from_number(number: u8) -> Option<NodeKind>
         ensures { MatchOption result (5 < number) (λ kind. number ≡ kind_number kind) }
     {

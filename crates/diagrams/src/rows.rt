@@ -9,7 +9,7 @@ pub type ReleaseEdge = Edge<Release>;
 
 pub type TextEdge = Edge<Text>;
 
-// A node as it is stored. Kinds 0 and 1 read key, first and count; 2 and 3 key, literal, high and low; 4 and 5
+// A node as it is stored. Kind and key are bytes, since a row may hold wrong ones. Kinds 0 and 1 read key, first and count; 2 and 3 key, literal, high and low; 4 and 5
 // literal, high and low.
 #[derive(Clone, Copy)]
 pub struct Node {

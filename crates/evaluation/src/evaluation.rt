@@ -140,6 +140,7 @@ pub fn evaluate<H: Host, R: Reporter>(
     ensures reports { Tells R.Reporter.tally reporter.old reporter.new (walk (H.Host.means host.now) (table_of diagram.now) root.0).reports }
     ensures law { Evaluates (table_of diagram.now) }
 {
+    // Each turn goes to the child that the one before led to, so that there is nothing to iterate over.
     let mut at = root;
     loop {
         let kind = diagram.kind(at)?;

@@ -32,7 +32,7 @@ fn any_inside(edge: &Edge<Release>, releases: &[Release]) -> bool
 }
 
 // What an evaluation of extras knows: the active names, the releases of Python if they are given, and what each id
-// that is settled may say.
+// that is settled may say, in memory of fixed size, since the unit has no heap.
 #[derive(Drop)]
 struct Asked<'a> {
     names: &'a [Text],
@@ -72,7 +72,8 @@ impl Asked<'_> {
         tree.edges.iter().any(|edge| self.says(tree.child(edge)))
     }
 
-    // Whether the name of an extra is among the names; one with any text never is.
+    // Whether the name of an extra is among the names; one with any text never is. The same is asked of a host elsewhere,
+    // in as few lines.
     fn is_named(&self, name: &MarkerValueExtra) -> bool
         ensures { result ≡ name_passes (among self.now.names.now) name.now }
     {
@@ -128,6 +129,7 @@ fn evaluate_possible(
         releases,
         table: [false; MOST_IDS],
     };
+    // An id is no place in a list: it is asked about by its number, and what it says is what later ones read.
     for id in 0..=root.0 {
         asked.table[id as usize] = asked.settle(diagram, NodeId(id));
     }

@@ -2,7 +2,8 @@ ghost use Rattle.std.specs.Prelude.{◌≤◌, length};
 
 use crate::warnings::{Count, Report, Table};
 
-// Counts the reports of each kind, and keeps them in a caller's list while a place is free.
+// Counts the reports of each kind, and keeps them in a caller's list while a place is free. The list is lent, since the unit
+// has no heap: hence the number of used places beside it.
 #[derive(Drop)]
 pub struct KeepingReporter<'a> {
     pub(crate) counts: Table<Count>,

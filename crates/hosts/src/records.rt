@@ -16,7 +16,8 @@ use values::texts::Text;
 // How many bytes a host's text has at most.
 pub const MOST_HOST_BYTES: usize = 255;
 
-// A host's text as a record owns it.
+// A host's text as a record owns it, without a heap. A `Text` differs by more than its size: its fields are public, and it
+// is read within a limit.
 #[derive(Clone, Copy)]
 pub struct HostBytes {
     length: u8,

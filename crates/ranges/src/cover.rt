@@ -31,6 +31,7 @@ pub fn uncovered_edge<T: Order>(edges: &[Edge<T>]) -> Option<usize>
     ensures law { Placed T.Order.row edges.now result }
     ensures one { Parted T.Order.row edges.now }
 {
+    // Each turn hands the upper bound on to the next one, which no search of the library does.
     let mut before = None;
     for (place, edge) in edges.iter().enumerate() {
         if !continues(before, &edge.lower) {

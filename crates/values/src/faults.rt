@@ -35,7 +35,7 @@ pub enum Layer {
 }
 
 impl Fault {
-    // The refusal's number.
+    // The refusal's number, by which documents and programs name it; code matches on the case.
     pub fn number(self) -> u8
         ensures { result ≡ (refusal self).number }
     {

@@ -26,7 +26,7 @@ pub trait Key: Copy + 'static {
 
     ghost numbered: { Numbered number_of (λ n. slice_get keys n) };
 
-    // The key that has a number, if one has.
+    // The key that has a number, if one has. `TryFrom` would be an impl for each kind of key; this serves all.
     final fn from_number(number: u8) -> Option<Self>
         ensures answer { result ≡ slice_get keys number }
         ensures law { Numbered number_of (λ n. slice_get keys n) }

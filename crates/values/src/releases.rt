@@ -16,7 +16,8 @@ pub const LARGEST: u64 = 18446744073709551614;
 // How many numbers a release has at most.
 pub const MOST_NUMBERS: usize = 8;
 
-// One to eight numbers. A stored count or number outside the limits is read as the nearest allowed one.
+// One to eight numbers. A stored count or number outside the limits is read as the nearest allowed one. A release lies in
+// rows that callers lend, and the unit has no heap: hence the count beside the numbers.
 #[derive(Clone, Copy)]
 pub struct Release {
     pub count: u8,
@@ -76,7 +77,7 @@ impl Ord for Release {
 
     ghost matches_eq = { λ x y. refl };
 
-    // Number by number, zeros filled in.
+    // Number by number, zeros filled in. Places are counted, since neither release has a slice of what is compared.
     fn cmp(&self, other: &Release) -> Ordering
         ensures value { result ≡ by_row (release_row self.now) (release_row other.now) }
         ensures words { MatchOrdering result (Before self.now other.now) (Same self.now other.now) (Before other.now self.now) }
@@ -91,6 +92,7 @@ impl Ord for Release {
     }
 }
 
+// The library has no impl of these for every `Order`, so that each type of values has its own.
 impl PartialOrd for Release {
     ghost partial_cmp = { as_partial_cmp (on release_row by_row) };
 

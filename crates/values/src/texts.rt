@@ -13,7 +13,8 @@ use std::cmp::Ordering;
 // How many bytes a text has at most.
 pub const MOST_BYTES: usize = 64;
 
-// At most 64 bytes. A greater stored length is read as 64.
+// At most 64 bytes. A greater stored length is read as 64. A text lies in rows that callers lend, and the unit has no heap:
+// hence the length beside the bytes.
 #[derive(Clone, Copy)]
 pub struct Text {
     pub length: u8,
@@ -47,6 +48,7 @@ impl Text {
         ensures answer { result ≡ normal_name (text_bytes self.now) }
         ensures law { Decides result (Normal (text_bytes self.now)) }
     {
+        // Each turn tells the next one whether a hyphen may come, which no test of single bytes does.
         let mut barred = true;
         for byte in self.as_bytes() {
             if !may_come(barred, *byte) {
@@ -76,6 +78,7 @@ impl Ord for Text {
     }
 }
 
+// The library has no impl of these for every `Order`, so that each type of values has its own.
 impl PartialOrd for Text {
     ghost partial_cmp = { as_partial_cmp (on text_bytes by_row) };
 
