@@ -1,5 +1,5 @@
 ghost use Rattle.std.specs.Prelude.{◌≡◌};
-ghost use Rattle.std.specs.Option.{option_map};
+ghost use Rattle.std.specs.Option.{option_copied};
 ghost use Rattle.ranges.specs.Cover.{continues as does_continue, closed, uncovered, Parted, Placed};
 
 use crate::edges::Edge;
@@ -8,7 +8,7 @@ use values::orders::Order;
 
 // Whether a lower bound is right behind the upper bound before it, if there is one.
 fn continues<T: Order>(before: Option<&Bound<T>>, lower: &Bound<T>) -> bool
-    ensures { result ≡ does_continue T.Order.row (option_map (λ x. x.now) before.entry) lower.now }
+    ensures { result ≡ does_continue T.Order.row (option_copied before.entry) lower.now }
 {
     match (before, lower) {
         (None, Bound::Unbounded) => true,
@@ -20,7 +20,7 @@ fn continues<T: Order>(before: Option<&Bound<T>>, lower: &Bound<T>) -> bool
 
 // Whether the line ends behind the last upper bound.
 fn is_closed<T>(last: Option<&Bound<T>>) -> bool
-    ensures { result ≡ closed (option_map (λ x. x.now) last.entry) }
+    ensures { result ≡ closed (option_copied last.entry) }
 {
     matches!(last, Some(Bound::Unbounded))
 }
