@@ -53,7 +53,7 @@ impl Release {
     pub fn written(&self) -> usize
         ensures { result ≡ release_count self.now }
     {
-        (self.count as usize).min(MOST_NUMBERS).max(1)
+        (self.count as usize).clamp(1, MOST_NUMBERS)
     }
 
     // The number at a place, 0 behind those that are written.
@@ -77,7 +77,8 @@ impl Ord for Release {
 
     ghost matches_eq = { λ x y. refl };
 
-    // Number by number, zeros filled in. Places are counted, since neither release has a slice of what is compared.
+    // Number by number, zeros filled in. Places are counted, since neither release has a slice of what is compared; a chain
+    // of iterators over them took twice the time.
     fn cmp(&self, other: &Release) -> Ordering
         ensures value { result ≡ by_row (release_row self.now) (release_row other.now) }
         ensures words { MatchOrdering result (Before self.now other.now) (Same self.now other.now) (Before other.now self.now) }
