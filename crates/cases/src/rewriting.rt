@@ -20,7 +20,7 @@ pub struct Rewriting {
     pub after: Result<(), Fault>,
 }
 
-// Admits the lists and asks the diagram about an id. Once the diagram has ended its rows can be written: the edge goes
+// Admits the lists, which are three parameters since each is written apart, and asks the diagram about an id. Once the diagram has ended its rows can be written: the edge goes
 // to the place, if the list has it, and the lists are admitted anew.
 pub fn rewrite(
     nodes: &mut [Node],
@@ -38,7 +38,8 @@ pub fn rewrite(
 {
     let admitted = Diagram::admit(nodes, releases, texts);
     let before = admitted.map(|_| ());
-    let known = admitted.unwrap_or(Diagram::empty()).kind(id).is_ok();
+    let diagram = admitted.unwrap_or(Diagram::empty());
+    let known = diagram.kind(id).is_ok();
     put(releases, place, edge);
     let after = Diagram::admit(nodes, releases, texts).map(|_| ());
     Rewriting {

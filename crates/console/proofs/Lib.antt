@@ -3,3 +3,4 @@ pub mod Cutting
 pub mod Readings
 pub mod Pairs
 pub mod Pieces
+pub mod Turns

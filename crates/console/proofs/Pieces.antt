@@ -17,13 +17,13 @@ module _ {V : Type 0} (written : List ℕ → V → Type 0) where
   abbrev pub ValuesSoFar : List (List ℕ) → List (List ℕ) → List V → Type 0
   ValuesSoFar all left vs = (ps : List (List ℕ)) × (all ≡ ps ++ left) × Each written ps vs
 
-  each_push : (ps : List (List ℕ)) (vs : List V) (p : List ℕ) (v : V) → Each written ps vs → written p v → Each written (ps ++ (p ∷ [])) (vs ++ (v ∷ []))
+  pub each_push : (ps : List (List ℕ)) (vs : List V) (p : List ℕ) (v : V) → Each written ps vs → written p v → Each written (ps ++ (p ∷ [])) (vs ++ (v ∷ []))
   each_push [] [] p v h w = (w, tt)
   each_push [] (u ∷ vs) p v h w = absurd h
   each_push (q ∷ ps) [] p v h w = absurd h
   each_push (q ∷ ps) (u ∷ vs) p v h w = (h.0, each_push ps vs p v h.1 w)
 
-  each_at : (ps qs : List (List ℕ)) (p : List ℕ) (vs : List V) → Each written (ps ++ (p ∷ qs)) vs → (v : V) × written p v
+  pub each_at : (ps qs : List (List ℕ)) (p : List ℕ) (vs : List V) → Each written (ps ++ (p ∷ qs)) vs → (v : V) × written p v
   each_at [] qs p [] h = absurd h
   each_at [] qs p (v ∷ vs) h = (v, h.0)
   each_at (q ∷ ps) qs p [] h = absurd h

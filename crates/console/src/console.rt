@@ -167,6 +167,7 @@ impl Console {
         let diagram = self.table.admit()?;
         let record = self.station.record()?;
         let teller = &mut self.teller;
+        // A host with another overlay is of another type, so that each number of them has its call.
         match self.station.overlays() {
             Overlays::None => teller.tell_evaluation(&diagram, root, &record, places),
             Overlays::One(only) => {

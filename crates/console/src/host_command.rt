@@ -28,7 +28,8 @@ impl HostCommand {
     }
 }
 
-// The eleven fields of a host, in the order of the record.
+// The eleven fields of a host, in the order of the record. They are three structs, since of a reader of eleven words the
+// check found no proof.
 #[derive(Drop)]
 pub(crate) struct HostWords {
     pub(crate) implementation: ImplementationWords,
@@ -135,7 +136,7 @@ impl HostWords {
         })
     }
 
-    // The three releases, made in the order of the fields.
+    // The three releases, made in the order of the fields, each as `Written::make` has it.
     pub(crate) fn make(&self) -> Result<HostReleases, Fault> {
         Ok(HostReleases {
             implementation_version: self.implementation.version.make()?,
@@ -167,6 +168,7 @@ impl Fixed<ReleaseWord> {
         })
     }
 
+    // As `Written::make`.
     pub(crate) fn make(&self) -> Result<Fixed<Release>, Fault> {
         Ok(Fixed {
             key: self.key,

@@ -11,8 +11,9 @@ use values::keys::Key;
 use values::releases::Release;
 use values::texts::Text;
 
-// Printing of the unit's types. `Display` cannot be implemented here for types of other crates, and for `Shown` of each
-// of them it would need `for<'b> Shown<'b, T>: Display` at a bound, of which no proof is made.
+// Printing of the unit's types, which print nothing themselves: how they look is the console's affair. `Display` cannot be
+// implemented here for types of other crates, and for `Shown` of each of them it would need `for<'b> Shown<'b, T>: Display`
+// at a bound, of which no proof is made.
 pub(crate) trait Show {
     fn show<W: fmt::Write>(&self, f: &mut fmt::Formatter<W>) -> fmt::Result;
 }
@@ -35,7 +36,7 @@ impl Show for bool {
 
 impl Show for Fault {
     fn show<W: fmt::Write>(&self, f: &mut fmt::Formatter<W>) -> fmt::Result {
-        let (number, layer) = (self.number(), self.layer() as u8);
+        let (number, layer) = (self.number(), self.layer().number());
         let (first, second) = self.places();
         write!(f, "refused {number} {layer} {first} {second}")
     }

@@ -72,6 +72,7 @@ impl NodeWords {
         })
     }
 
+    // As `Written::make`.
     pub(crate) fn make(&self) -> Result<Node, Fault>
         ensures { result ≡ made_node self.now }
     {
@@ -95,7 +96,7 @@ fn read_edge<V: Written>(words: &mut Words) -> Result<Edge<V>, Unread> {
     })
 }
 
-// The edge, with its lower value made first.
+// The edge, with its lower value made first, as `Written::make` has it.
 pub(crate) fn make_edge<V: Written>(edge: &Edge<V>) -> Result<Edge<V::Value>, Fault>
     ensures { result ≡ made_edge V.Written.made edge.now }
 {

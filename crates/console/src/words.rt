@@ -87,10 +87,7 @@ impl<'a> Words<'a> {
     pub(crate) fn end(&self) -> Result<(), Unread>
         ensures { Reads (λ _. words_left self.now ≡ []) result }
     {
-        match self.pieces.rest {
-            None => Ok(()),
-            Some(_) => Err(Unread::Malformed),
-        }
+        self.pieces.rest.map_or(Ok(()), |_| Err(Unread::Malformed))
     }
 
     fn number(&mut self) -> Result<u64, Unread>
@@ -99,8 +96,8 @@ impl<'a> Words<'a> {
         self.value()
     }
 
-    // A number up to 255. One reader of every type of number could not say what it refuses: `TryFrom` has no law by which
-    // a value is not both converted and refused.
+    // A number up to 255. One reader of every type of number could not say what it refuses: `TryFrom` has no law by
+    // which a value is not both converted and refused.
     #[tactic(auto, using(crate::proofs::Readings::number_refused))]
     pub(crate) fn byte(&mut self) -> Result<u8, Unread>
         ensures { ReadsNext (Number 255) self.old result }
@@ -161,6 +158,7 @@ fn read_all<V: Written>(heap: Global, pieces: &mut Pieces) -> Result<Vec<V>, Unr
     ensures { Reads (λ vs. Each V.Written.written (left_in pieces.old) vs.items) result }
 {
     let mut values = Vec::new(heap);
+    // A `for`, since what is ensured says when it fails.
     for piece in pieces {
         values.push(V::read(heap, piece)?)?;
     }
@@ -209,6 +207,7 @@ fn hexadecimal(heap: Global, digits: &[u8]) -> Result<Vec<u8>, Unread>
         return Err(Unread::Malformed);
     }
     let mut bytes = Vec::with_capacity(heap, digits.len() / 2)?;
+    // A `for`, as above.
     for pair in digits.chunks_exact(2) {
         let high = hexadecimal_digit(pair[0])?;
         let low = hexadecimal_digit(pair[1])?;
@@ -230,6 +229,7 @@ pub(crate) trait Written: Sized + Drop {
     fn read(heap: Global, word: &[u8]) -> Result<Self, Unread>
         ensures { Reads (written word.now) result };
 
+    // Not `TryFrom`, which has no law to say what it makes.
     fn make(&self) -> Result<Self::Value, Fault>
         ensures { result ≡ made self.now };
 }

@@ -1,12 +1,19 @@
 -- The words of lists in the checks, and when there are too many nodes.
-use Rattle.std.proofs.Common.{◌≡◌, ℕ, ◌-◌, ◌<◌, ◌≤◌, Bool, true, false, not, ◌&&◌, ◌||◌, eqb, ltb, List, [], ◌∷◌, length, get_or, take, drop, Some, sym, refl, ap, ◌∙◌, arith}
+use Rattle.std.proofs.Common.{◌≡◌, ℕ, ◌-◌, ◌/◌, ◌<◌, ◌≤◌, Bool, true, false, not, ◌&&◌, ◌||◌, eqb, ltb, List, [], ◌∷◌, length, get_or, take, drop, Some, sym, refl, ap, ◌∙◌, arith}
 use Rattle.std.specs.List.{list_any, list_all}
 use Rattle.std.proofs.lemmas.List.{take_rest}
 use Rattle.std.proofs.lemmas.Bool.Decides.{nat_tests}
 use Rattle.values.specs.declared.faults.Fault.TheVariants.{TooManyNodes}
 use Rattle.ranges.specs.declared.edges.Edge.{Edge}
 use Rattle.diagrams.specs.Tables.{Table, child_ids}
-use Rattle.diagrams.specs.Admission.{all_same, nodes_refusal, most_nodes, first_refusal}
+use Rattle.diagrams.specs.Admission.{too_large, all_same, nodes_refusal, most_nodes, first_refusal}
+
+-- a child's id against the place, by its half
+pub large_yes : (i c : ℕ) → i < c / 2 → too_large i c ≡ true
+large_yes i c h = grind (arith, nat_tests)
+
+pub large_no : (i c : ℕ) → c / 2 ≤ i → too_large i c ≡ false
+large_no i c h = grind (arith, nat_tests)
 
 -- all are one, unless some is another
 all_or_other : (c : ℕ) (cs : List ℕ) → list_all (λ d. eqb d c) cs ≡ not (list_any (λ d. not (eqb d c)) cs)

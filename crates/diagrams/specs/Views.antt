@@ -18,6 +18,7 @@ use Rattle.ranges.specs.declared.edges.Edge.{Edge}
 use Rattle.diagrams.specs.Tables.{Table, own, no_node}
 use Rattle.diagrams.specs.Ids.{turned}
 use Rattle.diagrams.specs.declared.rows.Node.{Node}
+use Rattle.diagrams.specs.declared.views.EdgesMarkerTree.{EdgesMarkerTree}
 use Rattle.diagrams.specs.declared.views.MarkerTreeKind.{MarkerTreeKind}
 use Rattle.diagrams.specs.declared.views.MarkerTreeKind.TheVariants.{True, False, Version, String, In, Contains, Extra}
 use Rattle.diagrams.specs.declared.views.MarkerValueExtra.{MarkerValueExtra}
@@ -38,6 +39,10 @@ pub data View : Type 0 where
 -- an edge as it is seen under an id
 abbrev pub seen : {T : Type 0} → ℕ → Edge T → Edge T
 seen id e = record { lower = e.lower; upper = e.upper; child = turned id e.child }
+
+-- the edges of a view, as its id shows them
+abbrev pub edges_seen : {K T : Type 0} → EdgesMarkerTree K T → List (Edge T)
+edges_seen v = map (seen v.id.0) v.edges.now
 
 -- what a node with a high and a low child shows under an id, by its kind and key
 abbrev pub branch_view : ℕ → Node → Option View
@@ -76,8 +81,8 @@ shown_extra (name.Arbitrary t) high low = extra_text t.now high low
 abbrev pub shown_kind : MarkerTreeKind → View
 shown_kind True = always
 shown_kind False = never
-shown_kind (Version v) = version v.key (map (seen v.id.0) v.edges.now)
-shown_kind (String v) = string v.key (map (seen v.id.0) v.edges.now)
+shown_kind (Version v) = version v.key (edges_seen v)
+shown_kind (String v) = string v.key (edges_seen v)
 shown_kind (In v) = in_literal v.key v.value.now v.high.0 v.low.0
 shown_kind (Contains v) = has_literal v.key v.value.now v.high.0 v.low.0
 shown_kind (Extra v) = shown_extra v.name v.high.0 v.low.0

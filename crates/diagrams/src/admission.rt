@@ -74,25 +74,30 @@ impl<T: Order> EdgesAt<'_, T> {
     fn check_children(&self) -> Result<(), Fault>
         ensures { result_err result ≡ child_refusal self.now.place (child_ids self.now.edges.now) }
     {
-        let node = self.place;
-        self.first_too_large()
-            .map_or(Ok(()), |child| Err(Fault::ChildTooLarge { node, child }))
+        let place = self.place;
+        self.first_too_large().map_or(
+            Ok(()),
+            |child| Err(Fault::ChildTooLarge { node: place, child }),
+        )
     }
 
     // Refusal 11.
     fn check_ranges(&self) -> Result<(), Fault>
         ensures { result_err result ≡ range_refusal T.Order.row self.now.place self.now.edges.now }
     {
-        let node = self.place;
-        first_empty(self.edges).map_or(Ok(()), |edge| Err(Fault::EmptyRange { node, edge }))
+        let place = self.place;
+        first_empty(self.edges).map_or(Ok(()), |edge| Err(Fault::EmptyRange { node: place, edge }))
     }
 
-    // Refusal 12. It differs from the one above in what it calls and in its case, so that both are one line.
+    // Refusal 12, as the check above but for the call and the case.
     fn check_cover(&self) -> Result<(), Fault>
         ensures { result_err result ≡ cover_refusal T.Order.row self.now.place self.now.edges.now }
     {
-        let node = self.place;
-        uncovered_edge(self.edges).map_or(Ok(()), |edge| Err(Fault::Uncovered { node, edge }))
+        let place = self.place;
+        uncovered_edge(self.edges).map_or(
+            Ok(()),
+            |edge| Err(Fault::Uncovered { node: place, edge }),
+        )
     }
 
     // Refusal 13.
@@ -166,9 +171,11 @@ impl NodeAt<'_> {
     fn check_child(&self, child: usize, id: u32) -> Result<(), Fault>
         ensures { result_err result ≡ (if too_large self.now.place id then Some (ChildTooLarge self.now.place child) else None) }
     {
-        let node = self.place;
-        if is_too_large(node, id) {
-            Err(Fault::ChildTooLarge { node, child })
+        if is_too_large(self.place, id) {
+            Err(Fault::ChildTooLarge {
+                node: self.place,
+                child,
+            })
         } else {
             Ok(())
         }
@@ -223,6 +230,7 @@ impl Rows<'_> {
         if self.nodes.len() > MOST_NODES {
             return Err(Fault::TooManyNodes);
         }
+        // A `for`, since each turn may leave with a refusal of its own.
         for (place, node) in self.nodes.iter().enumerate() {
             NodeAt { place, node }.check(self)?;
         }
@@ -231,7 +239,7 @@ impl Rows<'_> {
 }
 
 impl<'a> Diagram<'a> {
-    // The diagram of the lists, or the first rule that they break.
+    // The diagram of the lists, or the first rule that they break. The lists are lent one by one, as callers write them.
     #[tactic(auto, using(crate::proofs::Lawful::refuses))]
     pub fn admit(
         nodes: &'a [Node],

@@ -9,8 +9,9 @@ pub type ReleaseEdge = Edge<Release>;
 
 pub type TextEdge = Edge<Text>;
 
-// A node as it is stored. Kind and key are bytes, since a row may hold wrong ones. Kinds 0 and 1 read key, first and count; 2 and 3 key, literal, high and low; 4 and 5
-// literal, high and low.
+// A node as it is stored. Kinds 0 and 1 read key, first and count; 2 and 3 key, literal, high and low; 4 and 5 literal,
+// high and low. Kind and key are bytes, since a row may hold wrong ones; first and count say which edges of a lent list
+// are its own.
 #[derive(Clone, Copy)]
 pub struct Node {
     pub kind: u8,

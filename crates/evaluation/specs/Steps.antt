@@ -1,5 +1,7 @@
 -- What a step of the code says.
-use Rattle.std.specs.Prelude.{◌≡◌, ℕ, Bool, false, List, slice_index_or}
+use Rattle.std.specs.Prelude.{◌≡◌, ℕ, Bool, false, List, Option, slice_index_or}
+use Rattle.std.specs.Option.{option_copied}
+use Rattle.values.specs.declared.releases.Release.{Release}
 use Rattle.values.specs.Texts.{text_bytes}
 use Rattle.std.specs.declared.ops.ControlFlow.{ControlFlow}
 use Rattle.std.specs.declared.ops.ControlFlow.TheVariants.{Break, Continue}
@@ -24,6 +26,10 @@ shown_step (Continue id) = goes id.0
 abbrev pub name_passes : (List ℕ → Bool) → MarkerValueExtra → Bool
 name_passes test (Extra t) = test (text_bytes t.now)
 name_passes test (Arbitrary t) = false
+
+-- the releases of Python, where they are known
+abbrev pub releases_known : Asked → Option (List Release)
+releases_known a = option_copied a.releases
 
 -- what an id that is settled may say
 abbrev pub settled : Asked → ℕ → Bool

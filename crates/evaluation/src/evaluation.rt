@@ -1,10 +1,9 @@
-ghost use Rattle.std.specs.Prelude.{◌≡◌, map};
+ghost use Rattle.std.specs.Prelude.{◌≡◌};
 ghost use Rattle.values.specs.Releases.{release_row};
 ghost use Rattle.values.specs.Texts.{text_bytes};
 ghost use Rattle.ranges.specs.Bounds.{lies};
 ghost use Rattle.diagrams.specs.Held.{table_of};
-ghost use Rattle.diagrams.specs.Ids.{turned};
-ghost use Rattle.diagrams.specs.Views.{shown_kind, seen};
+ghost use Rattle.diagrams.specs.Views.{shown_kind, edges_seen};
 ghost use Rattle.hosts.specs.Hosts.{text_of};
 ghost use Rattle.evaluation.specs.Walks.{bound_reports, single, edge_reports, examined, chosen, lead as the_lead, told, walk};
 ghost use Rattle.evaluation.specs.Evaluation.{Evaluates};
@@ -57,9 +56,10 @@ fn report_edge<R: Reporter>(reporter: &mut R, key: MarkerValueString, edge: &Edg
 
 // Where the range of a release node that contains the host's release leads.
 fn choose_version<H: Host>(tree: &VersionMarkerTree, host: &H) -> NodeId
-    ensures { result.0 ≡ chosen release_row (release_row ((H.Host.means host.now).release tree.now.key)) (map (seen tree.now.id.0) tree.now.edges.now) }
+    ensures { result.0 ≡ chosen release_row (release_row ((H.Host.means host.now).release tree.now.key)) (edges_seen tree.now) }
 {
     let release = host.get_version(tree.key);
+    // With `map_or` nothing would be known of the child that a closure answers.
     match tree.edges.iter().find(|edge| edge.contains(release)) {
         Some(edge) => tree.child(edge),
         None => NodeId::FALSE,
@@ -74,12 +74,13 @@ fn choose_string<H: Host, R: Reporter>(
     host: &H,
     reporter: &mut R,
 ) -> NodeId
-    ensures child { result.0 ≡ chosen text_bytes (text_of (H.Host.means host.now) tree.now.key) (map (seen tree.now.id.0) tree.now.edges.now) }
-    ensures reports { Tells R.Reporter.tally reporter.old reporter.new (examined tree.now.key (text_of (H.Host.means host.now) tree.now.key) (map (seen tree.now.id.0) tree.now.edges.now)) }
+    ensures child { result.0 ≡ chosen text_bytes (text_of (H.Host.means host.now) tree.now.key) (edges_seen tree.now) }
+    ensures reports { Tells R.Reporter.tally reporter.old reporter.new (examined tree.now.key (text_of (H.Host.means host.now) tree.now.key) (edges_seen tree.now)) }
 {
     let text = HostText {
         bytes: host.get_string(tree.key),
     };
+    // A `for`, since each turn changes the reporter; a closure would leave nothing known of it.
     for edge in tree.edges {
         report_edge(reporter, tree.key, edge);
         if edge.contains(&text) {
@@ -99,7 +100,8 @@ fn is_active<H: Host>(name: &MarkerValueExtra, host: &H) -> bool
     }
 }
 
-// Where a view leads on a host: to an answer, or on to an id. The reports go to the reporter.
+// Where a view leads on a host: to an answer, or on to an id. The reports go to the reporter. Host and reporter are no
+// struct: one is read and the other written, in three functions.
 fn lead<H: Host, R: Reporter>(
     kind: &MarkerTreeKind,
     host: &H,

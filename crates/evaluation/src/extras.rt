@@ -1,14 +1,14 @@
-ghost use Rattle.std.specs.Prelude.{◌≡◌, ◌&&◌, map, Some, None};
+ghost use Rattle.std.specs.Prelude.{◌≡◌, ◌&&◌, Some, None};
 ghost use Rattle.std.specs.Option.{option_copied};
 ghost use Rattle.std.specs.List.{list_any};
 ghost use Rattle.values.specs.Releases.{release_row};
 ghost use Rattle.ranges.specs.Bounds.{lies};
 ghost use Rattle.diagrams.specs.Held.{table_of};
 ghost use Rattle.diagrams.specs.Ids.{turned};
-ghost use Rattle.diagrams.specs.Views.{shown_kind, seen, view};
+ghost use Rattle.diagrams.specs.Views.{shown_kind, edges_seen, view};
 ghost use Rattle.hosts.specs.Records.{among};
 ghost use Rattle.evaluation.specs.Extras.{counts as does_count, may_say, on_result, extras_answer, ExtrasLaw};
-ghost use Rattle.evaluation.specs.Steps.{name_passes, settled};
+ghost use Rattle.evaluation.specs.Steps.{name_passes, releases_known, settled};
 
 use diagrams::diagram::Diagram;
 use diagrams::ids::NodeId;
@@ -50,7 +50,7 @@ impl Asked<'_> {
 
     // Whether an edge of a release node counts.
     fn counts(&self, key: MarkerValueVersion, edge: &Edge<Release>) -> bool
-        ensures { result ≡ does_count (option_copied self.now.releases) key edge.now }
+        ensures { result ≡ does_count (releases_known self.now) key edge.now }
     {
         match (self.releases, key) {
             (Some(releases), MarkerValueVersion::PythonVersion) => any_inside(edge, releases),
@@ -60,20 +60,19 @@ impl Asked<'_> {
 
     // Whether an edge of a release node that counts leads to a yes.
     fn any_version(&self, tree: &VersionMarkerTree) -> bool
-        ensures { result ≡ list_any (λ e. does_count (option_copied self.now.releases) tree.now.key e && settled self.now e.child) (map (seen tree.now.id.0) tree.now.edges.now) }
+        ensures { result ≡ list_any (λ e. does_count (releases_known self.now) tree.now.key e && settled self.now e.child) (edges_seen tree.now) }
     {
         tree.edges.iter().any(|edge| self.counts(tree.key, edge) && self.says(tree.child(edge)))
     }
 
     // Whether an edge of a text node leads to a yes.
     fn any_string(&self, tree: &StringMarkerTree) -> bool
-        ensures { result ≡ list_any (λ e. settled self.now e.child) (map (seen tree.now.id.0) tree.now.edges.now) }
+        ensures { result ≡ list_any (λ e. settled self.now e.child) (edges_seen tree.now) }
     {
         tree.edges.iter().any(|edge| self.says(tree.child(edge)))
     }
 
-    // Whether the name of an extra is among the names; one with any text never is. The same is asked of a host elsewhere,
-    // in as few lines.
+    // Whether the name of an extra is among the names; one with any text never is. A host is asked elsewhere, in as few lines.
     fn is_named(&self, name: &MarkerValueExtra) -> bool
         ensures { result ≡ name_passes (among self.now.names.now) name.now }
     {
@@ -85,7 +84,7 @@ impl Asked<'_> {
 
     // Whether a view may say yes, where the ids below it are settled.
     fn may_be(&self, kind: &MarkerTreeKind) -> bool
-        ensures { result ≡ may_say self.now.names.now (option_copied self.now.releases) (settled self.now) (shown_kind kind.now) }
+        ensures { result ≡ may_say self.now.names.now (releases_known self.now) (settled self.now) (shown_kind kind.now) }
     {
         match kind {
             MarkerTreeKind::True => true,
@@ -103,8 +102,9 @@ impl Asked<'_> {
 
     // Whether an id may say yes, where the ids below it are settled.
     fn settle(&self, diagram: &Diagram, id: NodeId) -> bool
-        ensures { result ≡ on_result self.now.names.now (option_copied self.now.releases) (settled self.now) (view (table_of diagram.now) id.0) }
+        ensures { result ≡ on_result self.now.names.now (releases_known self.now) (settled self.now) (view (table_of diagram.now) id.0) }
     {
+        // With `is_ok_and` nothing would be known of what a closure answers.
         match diagram.kind(id) {
             Ok(kind) => self.may_be(&kind),
             Err(_) => false,

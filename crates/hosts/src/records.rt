@@ -16,8 +16,8 @@ use values::texts::Text;
 // How many bytes a host's text has at most.
 pub const MOST_HOST_BYTES: usize = 255;
 
-// A host's text as a record owns it, without a heap. A `Text` differs by more than its size: its fields are public, and it
-// is read within a limit.
+// A host's text as a record owns it, in an array, since the unit has no heap. It is no longer `Text`: that one has public
+// fields, and is read within a limit.
 #[derive(Clone, Copy)]
 pub struct HostBytes {
     length: u8,
@@ -102,10 +102,7 @@ fn first_not_normal(names: &[Text]) -> Option<usize>
 pub fn check_names(names: &[Text]) -> Result<(), Fault>
     ensures { result ≡ answer (names_refusal names.now) }
 {
-    match first_not_normal(names) {
-        Some(index) => Err(Fault::NameNotNormal { index }),
-        None => Ok(()),
-    }
+    first_not_normal(names).map_or(Ok(()), |index| Err(Fault::NameNotNormal { index }))
 }
 
 // Whether a name is among names, byte for byte.

@@ -87,7 +87,7 @@ impl<'a> KeepingReporter<'a> {
         }
     }
 
-    // The counts in the order of the kinds; like those of the other reporter one line, of another struct.
+    // The counts in the order of the kinds, one line as in the other reporter.
     pub fn counts(&self) -> [u32; 6]
         ensures { result ≡ listed (keeping_tally self.now).counts }
     {

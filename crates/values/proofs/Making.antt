@@ -1,5 +1,5 @@
 -- What making a release or a text answers.
-use Rattle.std.proofs.Common.{◌≡◌, ℕ, suc, ◌-◌, ◌<◌, ◌≤◌, min, true, false, eqb, ltb, ◌⊎◌, List, [], ◌∷◌, ◌++◌, map, length, get_or, take, replicate, Some, None, Ok, Err, Option, Result, ◌≢◌, sym, refl, ap, ◌∙◌, subst, inl, inr, arith}
+use Rattle.std.proofs.Common.{◌≡◌, ℕ, suc, ◌-◌, ◌<◌, ◌≤◌, min, true, false, eqb, ltb, ◌⊎◌, List, [], ◌∷◌, ◌++◌, map, length, get_or, take, drop, replicate, Some, None, Ok, Err, Option, Result, ◌≢◌, sym, refl, ap, ◌∙◌, subst, inl, inr, arith}
 use Rattle.std.proofs.lemmas.List.{take_at, take_all}
 use Rattle.std.proofs.lemmas.Bool.{cases_Bool, cases_lt, or_cases, or_parts, or_left, or_right, eqb-true, eqb-false, eq-eqb, ltb-true, ltb-false, lt-ltb, le-ltb}
 use Rattle.std.specs.List.{position_from}
@@ -9,7 +9,7 @@ use Rattle.values.specs.declared.releases.Release.{Release}
 use Rattle.values.specs.declared.texts.Text.{Text}
 use Rattle.values.specs.declared.faults.Fault.{Fault}
 use Rattle.values.specs.declared.faults.Fault.TheVariants.{ReleaseCount, NumberTooLarge}
-use Rattle.values.proofs.Firsts.{first_none, first_some}
+use Rattle.values.proofs.Firsts.{first_none, first_some, first_here}
 
 -- ---- releases
 
@@ -88,6 +88,14 @@ none_large ns stored some few none e =
 -- the first number that is too large
 pub one_large : (ns : List ℕ) (i : ℕ) → length ns ≢ 0 → length ns ≤ most_numbers → position_from (ltb largest) 0 ns ≡ Some i → Err (NumberTooLarge i) ≡ made_release ns
 one_large ns i some few e = answered ns (Some i) (count_right ns (omega arith) few) e
+
+-- the same, of a search that has come to the place i
+module _ (ns : List ℕ) (i : ℕ) (some : 1 ≤ length ns) (few : length ns ≤ most_numbers) (lt : i < length ns) (left : position_from (ltb largest) i (drop i ns) ≡ position_from (ltb largest) 0 ns) (more : largest < get_or ns i 0) where
+  pub too_large : Err (NumberTooLarge i) ≡ made_release ns
+  too_large = answered ns (Some i) (count_right ns some few) (sym left ∙ first_here 0 (ltb largest) ns i true lt (lt-ltb largest (get_or ns i 0) more))
+
+  pub too_large_law : MakesRelease ns (Err (NumberTooLarge i))
+  too_large_law = release_law ns (Err (NumberTooLarge i)) too_large
 
 -- ---- texts
 

@@ -2,9 +2,9 @@
 use Rattle.std.specs.Prelude.{◌≡◌, ℕ, suc, ◌+◌, ◌<◌, [], ◌∷◌, length, drop, ◌≢◌, slice_index, refl}
 use Rattle.std.specs.declared.cmp.Ordering.TheVariants.{Less, Equal, Greater}
 use Rattle.std.specs.declared.cmp.Ordering.{Ordering}
-use Rattle.std.proofs.Common.{ap, subst, ◌∙◌, inl, inr, arith}
+use Rattle.std.proofs.Common.{ap, sym, subst, ◌∙◌, inl, inr, arith}
 use Rattle.std.proofs.lemmas.List.{at_drop_more}
-use Rattle.std.specs.Cmp.{nat_cmp_total, ranks, on_total, tied_itself, IsTotalOrder}
+use Rattle.std.specs.Cmp.{nat_cmp_total, nat_cmp_is, ranks, on_total, tied_itself, IsTotalOrder}
 use Rattle.std.specs.Cmp.Lexicographic.{slice_cmp, lists_total}
 use Rattle.std.specs.Ordering.{MatchOrdering, ordering_reverse, ordering_then, nat_cmp, on}
 use Rattle.values.specs.Rows.{Row, by_row}
@@ -41,6 +41,13 @@ releases_total = on_total release_row rows_total
 
 pub texts_total : IsTotalOrder (on text_bytes by_row)
 texts_total = on_total text_bytes rows_total
+
+-- how two numbers compare, and what that says of them
+rank_is : (x y : ℕ) (o : Ordering) → nat_cmp x y ≡ o → MatchOrdering o (x < y) (x ≡ y) (y < x)
+rank_is x y o e = subst (λ k. MatchOrdering k (x < y) (x ≡ y) (y < x)) e (ranks x y)
+
+pub rank_says : (x y : ℕ) (o : Ordering) → MatchOrdering o (x < y) (x ≡ y) (y < x) → nat_cmp x y ≡ o
+rank_says x y o h = sym (nat_cmp_is x y o h)
 
 pub cons_earlier : (x : ℕ) (xs ys : Row) → Earlier xs ys → Earlier (x ∷ xs) (x ∷ ys)
 cons_earlier x xs ys e = record {

@@ -19,19 +19,29 @@ pub enum Fault {
     Uncovered { node: usize, edge: usize },
     OneChild { node: usize },
     UnknownId,
+    // The field is given by its place in the record, which documents number.
     HostTextTooLong { field: usize },
     NameNotNormal { index: usize },
     PathFull,
     ClausesFull,
 }
 
-// The layer of a rule. Its number is the one that refusals tell.
+// The layer of a rule.
 #[derive(Clone, Copy, PartialEq, Eq)]
 pub enum Layer {
     Value = 1,
     Edge,
     Node,
     Call,
+}
+
+impl Layer {
+    // The number by which documents and programs name a layer.
+    pub fn number(self) -> u8
+        ensures { result ≡ layer_number self }
+    {
+        self as u8
+    }
 }
 
 impl Fault {

@@ -4,7 +4,6 @@ ghost use Rattle.values.specs.Keys.{version_keys, version_number, version_name, 
 
 // What a node asks about: a key with its number in a table and its name in a marker.
 pub trait Key: Copy + 'static {
-    // The keys in the order of their numbers.
     ghost keys: { List Self };
 
     // The number that stands for a key.
@@ -43,7 +42,6 @@ pub enum MarkerValueVersion {
     PythonVersion,
 }
 
-// The keys in the order of their numbers.
 const VERSION_KEYS: [MarkerValueVersion; 3] = [
     MarkerValueVersion::ImplementationVersion,
     MarkerValueVersion::PythonFullVersion,
@@ -51,9 +49,9 @@ const VERSION_KEYS: [MarkerValueVersion; 3] = [
 ];
 
 impl Key for MarkerValueVersion {
-    ghost number_of = { version_number };
-
     ghost keys = { version_keys };
+
+    ghost number_of = { version_number };
 
     ghost name_of = { version_name };
 
@@ -95,7 +93,6 @@ pub enum MarkerValueString {
     SysPlatformDeprecated,
 }
 
-// The keys in the order of their numbers.
 const STRING_KEYS: [MarkerValueString; 14] = [
     MarkerValueString::ImplementationName,
     MarkerValueString::OsName,
@@ -114,9 +111,9 @@ const STRING_KEYS: [MarkerValueString; 14] = [
 ];
 
 impl Key for MarkerValueString {
-    ghost number_of = { string_number };
-
     ghost keys = { string_keys };
+
+    ghost number_of = { string_number };
 
     ghost name_of = { string_name };
 

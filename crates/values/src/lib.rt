@@ -1,4 +1,4 @@
-// The values of a marker diagram: releases, texts, names, keys, bounds, the order of values, and refusals.
+// The values of a marker diagram: releases, texts, names, keys, the order of values, and refusals.
 #![tactic(auto)]
 
 pub mod faults;

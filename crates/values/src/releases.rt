@@ -16,8 +16,8 @@ pub const LARGEST: u64 = 18446744073709551614;
 // How many numbers a release has at most.
 pub const MOST_NUMBERS: usize = 8;
 
-// One to eight numbers. A stored count or number outside the limits is read as the nearest allowed one. A release lies in
-// rows that callers lend, and the unit has no heap: hence the count beside the numbers.
+// One to eight numbers. A stored count or number outside the limits is read as the nearest allowed one. The count stands
+// beside an array, since rows of releases are lent and the unit has no heap.
 #[derive(Clone, Copy)]
 pub struct Release {
     pub count: u8,
@@ -93,7 +93,8 @@ impl Ord for Release {
     }
 }
 
-// The library has no impl of these for every `Order`, so that each type of values has its own.
+// These are written for each type of values: an impl for every `Order` would meet the library's own, and a derive would
+// compare what is stored, though 3.8 is 3.8.0.
 impl PartialOrd for Release {
     ghost partial_cmp = { as_partial_cmp (on release_row by_row) };
 

@@ -13,8 +13,8 @@ use std::cmp::Ordering;
 // How many bytes a text has at most.
 pub const MOST_BYTES: usize = 64;
 
-// At most 64 bytes. A greater stored length is read as 64. A text lies in rows that callers lend, and the unit has no heap:
-// hence the length beside the bytes.
+// At most 64 bytes. A greater stored length is read as 64. The length stands beside an array, since rows of texts are lent
+// and the unit has no heap.
 #[derive(Clone, Copy)]
 pub struct Text {
     pub length: u8,
@@ -78,7 +78,8 @@ impl Ord for Text {
     }
 }
 
-// The library has no impl of these for every `Order`, so that each type of values has its own.
+// These are written for each type of values: an impl for every `Order` would meet the library's own, and a derive would
+// compare what is stored, bytes behind the length too.
 impl PartialOrd for Text {
     ghost partial_cmp = { as_partial_cmp (on text_bytes by_row) };
 
@@ -103,7 +104,8 @@ impl PartialEq for Text {
     }
 }
 
-// Whether a byte may come next in a normal name. A hyphen is barred at the start and behind a hyphen.
+// Whether a byte may come next in a normal name. A hyphen is barred at the start and behind a hyphen, which is all that
+// the flag says.
 fn may_come(barred: bool, byte: u8) -> bool
     ensures { result ≡ may_come_next barred byte }
 {

@@ -2,6 +2,7 @@
 use diagrams::diagram::Diagram;
 use diagrams::rows::{Node, ReleaseEdge, TextEdge};
 use ranges::edges::Edge;
+use std::cmp::Ordering;
 use std::ops::Bound;
 use values::faults::Fault;
 use values::releases::Release;
@@ -20,12 +21,17 @@ pub fn told<T: Drop>(answer: Result<T, Fault>) -> [usize; 4] {
             let (first, second) = fault.places();
             [
                 fault.number() as usize,
-                fault.layer() as usize,
+                fault.layer().number() as usize,
                 first,
                 second,
             ]
         }
     }
+}
+
+// How two values compare, either way round.
+pub fn both_ways<T: Ord>(a: &T, b: &T) -> (Ordering, Ordering) {
+    (a.cmp(b), b.cmp(a))
 }
 
 // What admission tells of the lists.
@@ -34,7 +40,7 @@ pub fn admission<'a>(
     releases: &'a [ReleaseEdge],
     texts: &'a [TextEdge],
 ) -> [usize; 4] {
-    told(Diagram::admit(nodes, releases, texts).map(|_| ()))
+    told(Diagram::admit(nodes, releases, texts))
 }
 
 // What admission tells of the node alone.

@@ -1,5 +1,3 @@
-use std::process::Abort;
-use std::test::Fail;
 use values::keys::{Key, MarkerValueString, MarkerValueVersion};
 
 const VERSION_NAMES: [&str; 3] = [
@@ -25,25 +23,23 @@ const STRING_NAMES: [&str; 14] = [
     "sys.platform",
 ];
 
-// Checks that the keys have the numbers from 0 on, and the names.
-fn have<K: Key>(rt: &impl Abort, names: &[&str]) -> Result<(), Fail> {
-    for (number, name) in (0u8..=255).zip(names) {
-        let key = K::from_number(number).ok_or(*name)?;
-        assert_eq!(rt; key.number(), number);
-        assert_eq!(rt; key.name(), *name);
-    }
-    for number in names.len()..256 {
-        assert!(rt; K::from_number(number as u8).is_none());
-    }
-    Ok(())
+// The first number that does not stand for the key whose name is at its place, or stands for a key behind the last name.
+fn first_wrong<K: Key>(names: &[&str]) -> Option<u8> {
+    (0u8..=255).find(|number| {
+        match (K::from_number(*number), names.get(*number as usize)) {
+            (Some(key), Some(name)) => key.number() != *number || key.name() != *name,
+            (None, None) => false,
+            _ => true,
+        }
+    })
 }
 
 #[test]
-fn version_keys_have_their_numbers_and_names(rt: HostRuntime) -> Result<(), Fail> {
-    have::<MarkerValueVersion>(&rt, &VERSION_NAMES)
+fn version_keys_have_their_numbers_and_names(rt: HostRuntime) {
+    assert_eq!(rt; first_wrong::<MarkerValueVersion>(&VERSION_NAMES), None);
 }
 
 #[test]
-fn string_keys_have_their_numbers_and_names(rt: HostRuntime) -> Result<(), Fail> {
-    have::<MarkerValueString>(&rt, &STRING_NAMES)
+fn string_keys_have_their_numbers_and_names(rt: HostRuntime) {
+    assert_eq!(rt; first_wrong::<MarkerValueString>(&STRING_NAMES), None);
 }

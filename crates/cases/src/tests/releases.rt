@@ -1,4 +1,4 @@
-use crate::tests::given::{NO_REFUSAL, release, told};
+use crate::tests::given::{NO_REFUSAL, both_ways, release, told};
 use std::cmp::Ordering;
 use values::releases::{LARGEST, Release};
 
@@ -6,11 +6,6 @@ const ONE_TO_EIGHT: [u64; 8] = [1, 2, 3, 4, 5, 6, 7, 8];
 
 fn made(numbers: &[u64]) -> [usize; 4] {
     told(Release::new(numbers))
-}
-
-// How two releases compare, either way round.
-fn both_ways(a: &Release, b: &Release) -> (Ordering, Ordering) {
-    (a.cmp(b), b.cmp(a))
 }
 
 fn compared(a: &[u64], b: &[u64]) -> (Ordering, Ordering) {

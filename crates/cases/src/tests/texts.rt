@@ -1,14 +1,9 @@
-use crate::tests::given::{NO_REFUSAL, text, told};
+use crate::tests::given::{NO_REFUSAL, both_ways, text, told};
 use std::cmp::Ordering;
 use values::texts::Text;
 
 fn made(bytes: &[u8]) -> [usize; 4] {
     told(Text::new(bytes))
-}
-
-// How two texts compare, either way round.
-fn both_ways(a: &Text, b: &Text) -> (Ordering, Ordering) {
-    (a.cmp(b), b.cmp(a))
 }
 
 fn compared(a: &[u8], b: &[u8]) -> (Ordering, Ordering) {
