@@ -20,8 +20,9 @@ pub struct Rewriting {
     pub after: Result<(), Fault>,
 }
 
-// Admits the lists, which are three parameters since each is written apart, and asks the diagram about an id. Once the diagram has ended its rows can be written: the edge goes
-// to the place, if the list has it, and the lists are admitted anew.
+// Admits the lists and asks the diagram about an id. Once the diagram has ended its rows can be written: the edge goes
+// to the place, if the list has it, and the lists are admitted anew. They are lent one by one, since each is written
+// apart.
 pub fn rewrite(
     nodes: &mut [Node],
     releases: &mut [ReleaseEdge],

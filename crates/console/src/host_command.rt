@@ -28,8 +28,8 @@ impl HostCommand {
     }
 }
 
-// The eleven fields of a host, in the order of the record. They are three structs, since of a reader of eleven words the
-// check found no proof.
+// The eleven fields of a host, in the order of the record. They are three structs, since of a reader of eleven words
+// the check found no proof.
 #[derive(Drop)]
 pub(crate) struct HostWords {
     pub(crate) implementation: ImplementationWords,

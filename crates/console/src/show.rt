@@ -11,9 +11,9 @@ use values::keys::Key;
 use values::releases::Release;
 use values::texts::Text;
 
-// Printing of the unit's types, which print nothing themselves: how they look is the console's affair. `Display` cannot be
-// implemented here for types of other crates, and for `Shown` of each of them it would need `for<'b> Shown<'b, T>: Display`
-// at a bound, of which no proof is made.
+// Printing of the unit's types, which print nothing themselves: how they look is the console's affair. `Display` cannot
+// be implemented here for types of other crates, and for `Shown` of each of them it would need `for<'b> Shown<'b, T>:
+// Display` at a bound, of which no proof is made.
 pub(crate) trait Show {
     fn show<W: fmt::Write>(&self, f: &mut fmt::Formatter<W>) -> fmt::Result;
 }

@@ -239,7 +239,8 @@ impl Rows<'_> {
 }
 
 impl<'a> Diagram<'a> {
-    // The diagram of the lists, or the first rule that they break. The lists are lent one by one, as callers write them.
+    // The diagram of the lists, or the first rule that they break. The lists are lent one by one, as callers write
+    // them.
     #[tactic(auto, using(crate::proofs::Lawful::refuses))]
     pub fn admit(
         nodes: &'a [Node],

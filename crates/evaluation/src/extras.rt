@@ -72,7 +72,8 @@ impl Asked<'_> {
         tree.edges.iter().any(|edge| self.says(tree.child(edge)))
     }
 
-    // Whether the name of an extra is among the names; one with any text never is. A host is asked elsewhere, in as few lines.
+    // Whether the name of an extra is among the names; one with any text never is. A host is asked elsewhere, in as few
+    // lines.
     fn is_named(&self, name: &MarkerValueExtra) -> bool
         ensures { result ≡ name_passes (among self.now.names.now) name.now }
     {

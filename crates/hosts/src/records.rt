@@ -16,8 +16,8 @@ use values::texts::Text;
 // How many bytes a host's text has at most.
 pub const MOST_HOST_BYTES: usize = 255;
 
-// A host's text as a record owns it, in an array, since the unit has no heap. It is no longer `Text`: that one has public
-// fields, and is read within a limit.
+// A host's text as a record owns it, in an array, since the unit has no heap. It is not a longer `Text`: that one has
+// public fields, and is read within a limit.
 #[derive(Clone, Copy)]
 pub struct HostBytes {
     length: u8,

@@ -16,8 +16,8 @@ pub const LARGEST: u64 = 18446744073709551614;
 // How many numbers a release has at most.
 pub const MOST_NUMBERS: usize = 8;
 
-// One to eight numbers. A stored count or number outside the limits is read as the nearest allowed one. The count stands
-// beside an array, since rows of releases are lent and the unit has no heap.
+// One to eight numbers. A stored count or number outside the limits is read as the nearest allowed one. The count
+// stands beside an array, since rows of releases are lent and the unit has no heap.
 #[derive(Clone, Copy)]
 pub struct Release {
     pub count: u8,
@@ -77,8 +77,8 @@ impl Ord for Release {
 
     ghost matches_eq = { λ x y. refl };
 
-    // Number by number, zeros filled in. Places are counted, since neither release has a slice of what is compared; a chain
-    // of iterators over them took twice the time.
+    // Number by number, zeros filled in. Places are counted, since neither release has a slice of what is compared; a
+    // chain of iterators over them took twice the time.
     fn cmp(&self, other: &Release) -> Ordering
         ensures value { result ≡ by_row (release_row self.now) (release_row other.now) }
         ensures words { MatchOrdering result (Before self.now other.now) (Same self.now other.now) (Before other.now self.now) }

@@ -13,8 +13,8 @@ use std::cmp::Ordering;
 // How many bytes a text has at most.
 pub const MOST_BYTES: usize = 64;
 
-// At most 64 bytes. A greater stored length is read as 64. The length stands beside an array, since rows of texts are lent
-// and the unit has no heap.
+// At most 64 bytes. A greater stored length is read as 64. The length stands beside an array, since rows of texts are
+// lent and the unit has no heap.
 #[derive(Clone, Copy)]
 pub struct Text {
     pub length: u8,

@@ -23,7 +23,8 @@ const STRING_NAMES: [&str; 14] = [
     "sys.platform",
 ];
 
-// The first number that does not stand for the key whose name is at its place, or stands for a key behind the last name.
+// The first number that does not stand for the key whose name is at its place, or stands for a key behind the last
+// name.
 fn first_wrong<K: Key>(names: &[&str]) -> Option<u8> {
     (0u8..=255).find(|number| {
         match (K::from_number(*number), names.get(*number as usize)) {

@@ -20,8 +20,8 @@ where
     edge(lower, upper, u32::from(place % 2))
 }
 
-// Edges that cover the line up to a last one. Places are counted, and texts have a function of their own: of one loop over
-// `iter_mut` and a closure that makes the values, the check found no proof.
+// Edges that cover the line up to a last one. Places are counted, and texts have a function of their own: of one loop
+// over `iter_mut` and a closure that makes the values, the check found no proof.
 fn steps(last: u8) -> [ReleaseEdge; 65] {
     let mut edges = [edge(Unbounded, Unbounded, 0); 65];
     for place in 0..65u8 {
