@@ -230,7 +230,7 @@ impl Rows<'_> {
         if self.nodes.len() > MOST_NODES {
             return Err(Fault::TooManyNodes);
         }
-        // A `for`, since each turn may leave with a refusal of its own.
+        // A `for`: of `try_for_each` the check found no proof, and it is no plainer.
         for (place, node) in self.nodes.iter().enumerate() {
             NodeAt { place, node }.check(self)?;
         }
