@@ -24,8 +24,12 @@ next_weaker P Q f [] h = absurd h
 next_weaker P Q f (word ∷ words) h = f word h
 
 -- no number is read, and so none up to a limit
-pub number_refused : (most : ℕ) (words : Words) (r : Result ℕ Unread) (e : Unread) → IsErrAnd r (λ d. d ≡ e) → ReadsNext Decimal words (Err e) → ReadsNext (Number most) words r
-number_refused most words r e is h = refused_on _ _ r e is h (λ none n w. none n (next_weaker (λ word. Number most word n) (λ word. Decimal word n) (λ _ d. d.0) (words_left words) w))
+pub number_refused : (most : ℕ) (words : List (List ℕ)) (r : Result ℕ Unread) (e : Unread) → r ≡ Err e → Reads (λ n. Next (λ word. Decimal word n) words) (Err e) → Reads (λ n. Next (λ word. Number most word n) words) r
+number_refused most words r e is h = handed_on _ _ r e is h (λ none n w. none n (next_weaker (λ word. Number most word n) (λ word. Decimal word n) (λ _ d. d.0) words w))
+
+-- the same of the words that are left
+pub limit_refused : (most : ℕ) (words : Words) (r : Result ℕ Unread) (e : Unread) → IsErrAnd r (λ d. d ≡ e) → ReadsNext Decimal words (Err e) → ReadsNext (Number most) words r
+limit_refused most words r e is h = let p = err_from_is_err_and r is in number_refused most (words_left words) r e (p.1 ∙ ap Err p.2) h
 
 module _ {V : Type 0} (writes : List ℕ → V → Type 0) (words : Words) (r : Result V Unread) where
   -- no word is left, and so none writes a value

@@ -62,7 +62,8 @@ pub(crate) fn is_silent(line: &[u8]) -> bool
     matches!(line, [b'#', ..]) || line.iter().all(|byte| *byte == b' ')
 }
 
-// The pieces between marks, of which there is one more than marks.
+// The pieces between marks, of which there is one more than marks. The library's `split` takes a closure, whose type
+// could not be named in a field of `Words`.
 #[derive(Drop)]
 pub(crate) struct Pieces<'a> {
     pub(crate) rest: Option<&'a [u8]>,

@@ -47,7 +47,7 @@ pub(crate) enum RowWords {
     TextEdge(Edge<TextWord>),
 }
 
-// The fields of a node, in the order of its row.
+// The fields of a node, in the order of its row. It is no `Node`, which is the plain row that callers fill in.
 #[derive(Drop)]
 pub(crate) struct NodeWords {
     kind: u8,

@@ -98,7 +98,7 @@ impl<'a> Words<'a> {
 
     // A number up to 255. One reader of every type of number could not say what it refuses: `TryFrom` has no law by
     // which a value is not both converted and refused.
-    #[tactic(auto, using(crate::proofs::Readings::number_refused))]
+    #[tactic(auto, using(crate::proofs::Readings::limit_refused))]
     pub(crate) fn byte(&mut self) -> Result<u8, Unread>
         ensures { ReadsNext (Number 255) self.old result }
     {
@@ -106,7 +106,7 @@ impl<'a> Words<'a> {
     }
 
     // An id, or another number of 32 bits.
-    #[tactic(auto, using(crate::proofs::Readings::number_refused))]
+    #[tactic(auto, using(crate::proofs::Readings::limit_refused))]
     pub(crate) fn id(&mut self) -> Result<u32, Unread>
         ensures { ReadsNext (Number 4294967295) self.old result }
     {
@@ -114,7 +114,7 @@ impl<'a> Words<'a> {
     }
 
     // A number of places, which is at most 1,000,000.
-    #[tactic(auto, using(crate::proofs::Readings::number_refused))]
+    #[tactic(auto, using(crate::proofs::Readings::limit_refused))]
     pub(crate) fn places(&mut self) -> Result<usize, Unread>
         ensures { ReadsNext (Number 1000000) self.old result }
     {
@@ -258,6 +258,7 @@ pub(crate) struct ReleaseWord {
 }
 
 impl ReleaseWord {
+    // No numbers; a text has a constructor of its own, since each names its field.
     pub(crate) fn new(heap: Global) -> ReleaseWord
         ensures { result.numbers.items ≡ [] }
     {

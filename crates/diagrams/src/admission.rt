@@ -70,7 +70,7 @@ impl<T: Order> EdgesAt<'_, T> {
             .position(|child| is_too_large(place, child))
     }
 
-    // Refusal 10.
+    // Refusal 10. This check and the next two are one expression each, with another call and another case.
     fn check_children(&self) -> Result<(), Fault>
         ensures { result_err result ≡ child_refusal self.now.place (child_ids self.now.edges.now) }
     {
@@ -89,7 +89,7 @@ impl<T: Order> EdgesAt<'_, T> {
         first_empty(self.edges).map_or(Ok(()), |edge| Err(Fault::EmptyRange { node: place, edge }))
     }
 
-    // Refusal 12, as the check above but for the call and the case.
+    // Refusal 12.
     fn check_cover(&self) -> Result<(), Fault>
         ensures { result_err result ≡ cover_refusal T.Order.row self.now.place self.now.edges.now }
     {

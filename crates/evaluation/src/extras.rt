@@ -113,7 +113,8 @@ impl Asked<'_> {
     }
 }
 
-// Whether a root may say yes. Each id up to it is settled once, from the lowest, since children fall.
+// Whether a root may say yes: one function for the two calls below, which the Rust crate has with these parameters.
+// Each id up to it is settled once, from the lowest, since children fall.
 #[tactic(auto, using(crate::proofs::Possibly::roots))]
 fn evaluate_possible(
     diagram: &Diagram,

@@ -29,7 +29,7 @@ impl Table<Count> {
         }
     }
 
-    // The counts in the order of the kinds.
+    // The counts in the order of the kinds: an array, since programs print them in this order.
     pub(crate) fn raised(&self) -> [u32; 6]
         ensures { result ≡ listed (numbers self.now) }
     {
@@ -87,7 +87,7 @@ impl<'a> KeepingReporter<'a> {
         }
     }
 
-    // The counts in the order of the kinds, one line as in the other reporter.
+    // The counts in the order of the kinds, as an array and in one line, as in the other reporter.
     pub fn counts(&self) -> [u32; 6]
         ensures { result ≡ listed (keeping_tally self.now).counts }
     {

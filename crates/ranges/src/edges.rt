@@ -43,7 +43,8 @@ fn are_empty<T: Order>(lower: &Bound<T>, upper: &Bound<T>) -> bool
     }
 }
 
-// Whether a value keeps to a lower bound.
+// Whether a value keeps to a lower bound. Each test differs from that of an upper bound, so that there are two
+// functions.
 fn is_above<T: Order, V: Point<T>>(lower: &Bound<T>, value: &V) -> bool
     ensures { result ≡ above T.Order.row lower.now (V.Point.at value.now) }
 {

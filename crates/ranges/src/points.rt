@@ -7,7 +7,8 @@ use values::orders::Order;
 use values::releases::Release;
 use values::texts::Text;
 
-// What has a place on the line of the values T: it is held against bounds, and need not be a T itself.
+// What has a place on the line of the values T: it is held against bounds, and need not be a T itself, as the library's
+// comparison would want.
 pub trait Point<T: Order> {
     // The row of numbers that it means.
     ghost at: { Self → Row };

@@ -105,7 +105,7 @@ impl PartialEq for Text {
 }
 
 // Whether a byte may come next in a normal name. A hyphen is barred at the start and behind a hyphen, which is all that
-// the flag says.
+// the flag says; an enum of two cases would be no plainer.
 fn may_come(barred: bool, byte: u8) -> bool
     ensures { result ≡ may_come_next barred byte }
 {

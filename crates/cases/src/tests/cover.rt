@@ -11,6 +11,7 @@ fn joined(upper: Bound<Release>, lower: Bound<Release>) -> [[usize; 4]; 2] {
     placed(ranged(0, 0, 2), &edges, &[])
 }
 
+// The same of the other list: which of two arguments the edges are, no type parameter says.
 fn texts_joined(upper: Bound<Text>, lower: Bound<Text>) -> [[usize; 4]; 2] {
     let edges = [edge(Unbounded, upper, 0), edge(lower, Unbounded, 1)];
     placed(ranged(1, 0, 2), &[], &edges)

@@ -29,6 +29,7 @@ fn middle(lower: Bound<Release>, upper: Bound<Release>) -> [[usize; 4]; 2] {
     placed(ranged(0, 0, 3), &around(lower, upper), &[])
 }
 
+// The same of the other list: which of two arguments the edges are, no type parameter says.
 fn text_middle(lower: Bound<Text>, upper: Bound<Text>) -> [[usize; 4]; 2] {
     placed(ranged(1, 0, 3), &[], &around(lower, upper))
 }
