@@ -31,6 +31,10 @@ number_refused most words r e is h = handed_on _ _ r e is h (λ none n w. none n
 pub limit_refused : (most : ℕ) (words : Words) (r : Result ℕ Unread) (e : Unread) → IsErrAnd r (λ d. d ≡ e) → ReadsNext Decimal words (Err e) → ReadsNext (Number most) words r
 limit_refused most words r e is h = let p = err_from_is_err_and r is in number_refused most (words_left words) r e (p.1 ∙ ap Err p.2) h
 
+-- a refusal handed on to another reader of the same number
+pub refused_alike : (most : ℕ) (words : Words) (r : Result ℕ Unread) (e : Unread) → IsErrAnd r (λ d. d ≡ e) → ReadsNext (Number most) words (Err e) → ReadsNext (Number most) words r
+refused_alike most words r e is h = let p = err_from_is_err_and r is in handed_on _ _ r e (p.1 ∙ ap Err p.2) h (λ none n w. none n w)
+
 module _ {V : Type 0} (writes : List ℕ → V → Type 0) (words : Words) (r : Result V Unread) where
   -- no word is left, and so none writes a value
   pub value_refused : (e : Unread) → IsErrAnd r (λ d. d ≡ e) → words_left words ≡ [] → ReadsNext writes words r

@@ -3,7 +3,7 @@ use crate::command::Command;
 use crate::host_command::{Fixed, HostCommand, HostWords};
 use crate::question::{PythonQuestion, Question};
 use crate::script::{Script, is_silent};
-use crate::show::{Show, Shown};
+use crate::show::Shown;
 use crate::station::{Overlays, Station};
 use crate::stop::Stop;
 use crate::table::Table;
@@ -54,7 +54,7 @@ impl Console {
     fn obey(&mut self, command: Command) -> io::Result<()> {
         match self.answer(command) {
             Ok(()) => Ok(()),
-            Err(Stop::Refused(fault)) => self.teller.tell(Shown(&fault)),
+            Err(Stop::Refused(fault)) => self.teller.tell(Shown(fault)),
             Err(Stop::NotNow) => self.teller.tell("not-now"),
             Err(Stop::Failed(error)) => Err(error),
         }
@@ -70,8 +70,8 @@ impl Console {
 
     fn answer_table(&mut self, command: TableCommand) -> Result<(), Stop> {
         match command {
-            TableCommand::Release(word) => self.value("release", &word),
-            TableCommand::Text(word) => self.value("text", &word),
+            TableCommand::Release(word) => self.value::<ReleaseWord>("release", &word),
+            TableCommand::Text(word) => self.value::<TextWord>("text", &word),
             TableCommand::Row(words) => self.row(&words),
             TableCommand::Clear => self.clear(),
             TableCommand::Admit => self.admit(),
@@ -105,10 +105,10 @@ impl Console {
     // The value of a word, told behind the name of its kind.
     fn value<V: Written>(&mut self, name: &str, word: &V) -> Result<(), Stop>
     where
-        V::Value: Show,
+        Shown<V::Value>: Display,
     {
         let value = word.make()?;
-        self.say(format_args!("{name} {}", Shown(&value)))
+        self.say(format_args!("{name} {}", Shown(value)))
     }
 
     fn row(&mut self, words: &RowWords) -> Result<(), Stop> {
@@ -134,7 +134,7 @@ impl Console {
     fn kind(&mut self, id: NodeId) -> Result<(), Stop> {
         let diagram = self.table.admit()?;
         let kind = diagram.kind(id)?;
-        Ok(self.teller.tell(Shown(&kind))?)
+        Ok(self.teller.tell(Shown(kind))?)
     }
 
     fn host(&mut self, words: HostWords) -> Result<(), Stop> {
@@ -186,7 +186,7 @@ impl Console {
         let diagram = self.table.admit()?;
         let names = make_all(self.heap, words)?;
         let answer = evaluate_extras(&diagram, root, &names)?;
-        self.say(Shown(&answer))
+        self.say(Shown(answer))
     }
 
     fn extras_python(&mut self, question: &PythonQuestion) -> Result<(), Stop> {
@@ -195,6 +195,6 @@ impl Console {
         let names = make_all(self.heap, &question.names)?;
         let root = question.root;
         let answer = evaluate_extras_and_python_version(&diagram, root, &names, &releases)?;
-        self.say(Shown(&answer))
+        self.say(Shown(answer))
     }
 }

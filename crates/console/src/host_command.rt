@@ -28,120 +28,62 @@ impl HostCommand {
     }
 }
 
-// The eleven fields of a host, in the order of the record. They are three structs, since of a reader of eleven words
-// the check found no proof.
+// The eleven fields of a host, in the order of the record. They are no `Fields`, since the releases are words too.
 #[derive(Drop)]
 pub(crate) struct HostWords {
-    pub(crate) implementation: ImplementationWords,
-    pub(crate) platform: PlatformWords,
-    pub(crate) python: PythonWords,
-}
-
-#[derive(Drop)]
-pub(crate) struct ImplementationWords {
-    pub(crate) name: TextWord,
-    pub(crate) version: ReleaseWord,
-}
-
-#[derive(Drop)]
-pub(crate) struct PlatformWords {
+    pub(crate) implementation_name: TextWord,
+    pub(crate) implementation_version: ReleaseWord,
     pub(crate) os_name: TextWord,
-    pub(crate) machine: TextWord,
-    pub(crate) python_implementation: TextWord,
-    pub(crate) release: TextWord,
-    pub(crate) system: TextWord,
-    pub(crate) version: TextWord,
-}
-
-#[derive(Drop)]
-pub(crate) struct PythonWords {
-    pub(crate) full_version: ReleaseWord,
-    pub(crate) version: ReleaseWord,
+    pub(crate) platform_machine: TextWord,
+    pub(crate) platform_python_implementation: TextWord,
+    pub(crate) platform_release: TextWord,
+    pub(crate) platform_system: TextWord,
+    pub(crate) platform_version: TextWord,
+    pub(crate) python_full_version: ReleaseWord,
+    pub(crate) python_version: ReleaseWord,
     pub(crate) sys_platform: TextWord,
-}
-
-impl ImplementationWords {
-    fn new(heap: Global) -> ImplementationWords {
-        ImplementationWords {
-            name: TextWord::new(heap),
-            version: ReleaseWord::new(heap),
-        }
-    }
-
-    fn read(words: &mut Words) -> Result<ImplementationWords, Unread> {
-        Ok(ImplementationWords {
-            name: words.value()?,
-            version: words.value()?,
-        })
-    }
-}
-
-impl PlatformWords {
-    fn new(heap: Global) -> PlatformWords {
-        PlatformWords {
-            os_name: TextWord::new(heap),
-            machine: TextWord::new(heap),
-            python_implementation: TextWord::new(heap),
-            release: TextWord::new(heap),
-            system: TextWord::new(heap),
-            version: TextWord::new(heap),
-        }
-    }
-
-    fn read(words: &mut Words) -> Result<PlatformWords, Unread> {
-        Ok(PlatformWords {
-            os_name: words.value()?,
-            machine: words.value()?,
-            python_implementation: words.value()?,
-            release: words.value()?,
-            system: words.value()?,
-            version: words.value()?,
-        })
-    }
-}
-
-impl PythonWords {
-    fn new(heap: Global) -> PythonWords {
-        PythonWords {
-            full_version: ReleaseWord::new(heap),
-            version: ReleaseWord::new(heap),
-            sys_platform: TextWord::new(heap),
-        }
-    }
-
-    fn read(words: &mut Words) -> Result<PythonWords, Unread> {
-        Ok(PythonWords {
-            full_version: words.value()?,
-            version: words.value()?,
-            sys_platform: words.value()?,
-        })
-    }
 }
 
 impl HostWords {
     // The words of a host of which nothing is known.
     pub(crate) fn new(heap: Global) -> HostWords {
         HostWords {
-            implementation: ImplementationWords::new(heap),
-            platform: PlatformWords::new(heap),
-            python: PythonWords::new(heap),
+            implementation_name: TextWord::new(heap),
+            implementation_version: ReleaseWord::new(heap),
+            os_name: TextWord::new(heap),
+            platform_machine: TextWord::new(heap),
+            platform_python_implementation: TextWord::new(heap),
+            platform_release: TextWord::new(heap),
+            platform_system: TextWord::new(heap),
+            platform_version: TextWord::new(heap),
+            python_full_version: ReleaseWord::new(heap),
+            python_version: ReleaseWord::new(heap),
+            sys_platform: TextWord::new(heap),
         }
     }
 
     fn read(words: &mut Words) -> Result<HostWords, Unread> {
         Ok(HostWords {
-            implementation: ImplementationWords::read(words)?,
-            platform: PlatformWords::read(words)?,
-            python: PythonWords::read(words)?,
+            implementation_name: words.value()?,
+            implementation_version: words.value()?,
+            os_name: words.value()?,
+            platform_machine: words.value()?,
+            platform_python_implementation: words.value()?,
+            platform_release: words.value()?,
+            platform_system: words.value()?,
+            platform_version: words.value()?,
+            python_full_version: words.value()?,
+            python_version: words.value()?,
+            sys_platform: words.value()?,
         })
     }
 
     // The three releases, made in the order of the fields, each as `Written::make` has it.
     pub(crate) fn make(&self) -> Result<HostReleases, Fault> {
         Ok(HostReleases {
-            implementation_version: self.implementation.version.make()?,
-            python_full_version: self.python.full_version.make()?,
-            python_version: self.python.version.make()?,
+            implementation_version: self.implementation_version.make()?,
+            python_full_version: self.python_full_version.make()?,
+            python_version: self.python_version.make()?,
         })
     }
 }

@@ -86,23 +86,19 @@ impl Station {
     }
 
     fn fields(&self) -> Fields<&[u8]> {
-        let HostWords {
-            implementation,
-            platform,
-            python,
-        } = &self.words;
+        let words = &self.words;
         Fields {
-            implementation_name: &implementation.name.bytes,
+            implementation_name: &words.implementation_name.bytes,
             implementation_version: self.releases.implementation_version,
-            os_name: &platform.os_name.bytes,
-            platform_machine: &platform.machine.bytes,
-            platform_python_implementation: &platform.python_implementation.bytes,
-            platform_release: &platform.release.bytes,
-            platform_system: &platform.system.bytes,
-            platform_version: &platform.version.bytes,
+            os_name: &words.os_name.bytes,
+            platform_machine: &words.platform_machine.bytes,
+            platform_python_implementation: &words.platform_python_implementation.bytes,
+            platform_release: &words.platform_release.bytes,
+            platform_system: &words.platform_system.bytes,
+            platform_version: &words.platform_version.bytes,
             python_full_version: self.releases.python_full_version,
             python_version: self.releases.python_version,
-            sys_platform: &python.sys_platform.bytes,
+            sys_platform: &words.sys_platform.bytes,
         }
     }
 

@@ -22,7 +22,7 @@ pub(crate) enum TableCommand {
 }
 
 impl TableCommand {
-    // The command of a name, if it is one of these.
+    // The command of a name, if it is one of these. Name and words go together only in the readers of commands.
     pub(crate) fn read(name: &[u8], words: &mut Words) -> Result<Option<TableCommand>, Unread> {
         Ok(Some(match name {
             b"release" => TableCommand::Release(words.value()?),

@@ -57,8 +57,8 @@ impl Teller {
         let mut kept = vec![in self.heap; NO_REPORT; places]?;
         let mut reporter = KeepingReporter::new(&mut kept);
         match evaluate(diagram, root, host, &mut reporter) {
-            Ok(answer) => self.tell(Shown(&answer))?,
-            Err(fault) => self.tell(Shown(&fault))?,
+            Ok(answer) => self.tell(Shown(answer))?,
+            Err(fault) => self.tell(Shown(fault))?,
         }
         self.tell_counts(reporter.counts())?;
         Ok(self.tell_kept(reporter.kept())?)
@@ -74,7 +74,7 @@ impl Teller {
 
     fn tell_kept(&mut self, kept: &[Report]) -> io::Result<()> {
         for report in kept {
-            self.tell(format_args!("kept {}", Shown(report)))?;
+            self.tell(format_args!("kept {}", Shown(*report)))?;
         }
         Ok(())
     }

@@ -1,5 +1,5 @@
 // The words of a line, and the values that they write.
-ghost use Rattle.std.specs.Prelude.{◌≡◌, ℕ, ◌^◌, ◌<◌, List, [], Result, MatchResult};
+ghost use Rattle.std.specs.Prelude.{◌≡◌, ℕ, ◌^◌, ◌<◌, ◌≤◌, List, [], IfOk, Result, MatchResult};
 ghost use Rattle.std.specs.Option.{SomeIff};
 ghost use Rattle.std.specs.Str.Parse.{IsNumeral, digits_value as value_in};
 ghost use Rattle.values.specs.Releases.{made_release};
@@ -10,12 +10,11 @@ ghost use Rattle.console.specs.Spelling.{Each, Decimal, HexDigit, HexBytes, IsTe
 ghost use Rattle.console.specs.Words.{left_in, words_left, Next, behind, Number, ReadsNext};
 ghost use Rattle.console.specs.Reading.{Reads};
 ghost use Rattle.console.specs.Making.{made_bound};
-ghost use Rattle.console.specs.declared.words.Unread.TheVariants.{Malformed, NoMemory};
+ghost use Rattle.console.specs.declared.words.Unread.TheVariants.{NoMemory};
 
 use crate::script::{Pieces, split};
 use crate::stop::Stop;
 use std::alloc::{AllocError, AllocFailed, Global};
-use std::num::TryFromIntError;
 use std::ops::Bound;
 use values::faults::Fault;
 use values::keys::{Key, MarkerValueVersion};
@@ -43,14 +42,6 @@ impl<T: Drop> From<AllocFailed<T>> for Unread {
 
     fn from(_error: AllocFailed<T>) -> Unread {
         Unread::NoMemory
-    }
-}
-
-impl From<TryFromIntError> for Unread {
-    ghost from_gives = { λ _ r. r ≡ Malformed };
-
-    fn from(_error: TryFromIntError) -> Unread {
-        Unread::Malformed
     }
 }
 
@@ -96,34 +87,42 @@ impl<'a> Words<'a> {
         self.value()
     }
 
-    // A number up to 255. One reader of every type of number could not say what it refuses: `TryFrom` has no law by
-    // which a value is not both converted and refused.
+    // A number up to a limit.
     #[tactic(auto, using(crate::proofs::Readings::limit_refused))]
-    pub(crate) fn byte(&mut self) -> Result<u8, Unread>
-        ensures { ReadsNext (Number 255) self.old result }
-    {
-        Ok(u8::try_from(self.number()?)?)
-    }
-
-    // An id, or another number of 32 bits.
-    #[tactic(auto, using(crate::proofs::Readings::limit_refused))]
-    pub(crate) fn id(&mut self) -> Result<u32, Unread>
-        ensures { ReadsNext (Number 4294967295) self.old result }
-    {
-        Ok(u32::try_from(self.number()?)?)
-    }
-
-    // A number of places, which is at most 1,000,000.
-    #[tactic(auto, using(crate::proofs::Readings::limit_refused))]
-    pub(crate) fn places(&mut self) -> Result<usize, Unread>
-        ensures { ReadsNext (Number 1000000) self.old result }
+    fn up_to(&mut self, most: u64) -> Result<u64, Unread>
+        ensures number { ReadsNext (Number most) self.old result }
+        ensures within { IfOk result (λ n. n ≤ most) }
     {
         let number = self.number()?;
-        if number <= MOST_PLACES {
-            Ok(number as usize)
+        if number <= most {
+            Ok(number)
         } else {
             Err(Unread::Malformed)
         }
+    }
+
+    // A number up to 255.
+    #[tactic(auto, using(crate::proofs::Readings::refused_alike))]
+    pub(crate) fn byte(&mut self) -> Result<u8, Unread>
+        ensures { ReadsNext (Number 255) self.old result }
+    {
+        Ok(self.up_to(255)? as u8)
+    }
+
+    // An id, or another number of 32 bits.
+    #[tactic(auto, using(crate::proofs::Readings::refused_alike))]
+    pub(crate) fn id(&mut self) -> Result<u32, Unread>
+        ensures { ReadsNext (Number 4294967295) self.old result }
+    {
+        Ok(self.up_to(4_294_967_295)? as u32)
+    }
+
+    // A number of places, which is at most 1,000,000.
+    #[tactic(auto, using(crate::proofs::Readings::refused_alike))]
+    pub(crate) fn places(&mut self) -> Result<usize, Unread>
+        ensures { ReadsNext (Number 1000000) self.old result }
+    {
+        Ok(self.up_to(MOST_PLACES)? as usize)
     }
 
     // The number of a release's key.

@@ -101,7 +101,8 @@ fn is_active<H: Host>(name: &MarkerValueExtra, host: &H) -> bool
 }
 
 // Where a view leads on a host: to an answer, or on to an id. The reports go to the reporter. Host and reporter are no
-// struct: one is read and the other written, in three functions.
+// struct: one is read and the other written, in three functions. High or low is chosen in place: a function would take
+// the same three values.
 fn lead<H: Host, R: Reporter>(
     kind: &MarkerTreeKind,
     host: &H,

@@ -8,13 +8,13 @@ use values::faults::Fault;
 use values::releases::Release;
 use values::texts::Text;
 
-pub const NO_REFUSAL: [usize; 4] = [0; 4];
+pub(crate) const NO_REFUSAL: [usize; 4] = [0; 4];
 
 // No refusal, at either of two places.
-pub const ADMITTED: [[usize; 4]; 2] = [[0; 4]; 2];
+pub(crate) const ADMITTED: [[usize; 4]; 2] = [[0; 4]; 2];
 
 // Number, layer and both places of a refusal, zeros where there is none.
-pub fn told<T: Drop>(answer: Result<T, Fault>) -> [usize; 4] {
+pub(crate) fn told<T: Drop>(answer: Result<T, Fault>) -> [usize; 4] {
     match answer {
         Ok(_) => NO_REFUSAL,
         Err(fault) => {
@@ -30,12 +30,12 @@ pub fn told<T: Drop>(answer: Result<T, Fault>) -> [usize; 4] {
 }
 
 // How two values compare, either way round.
-pub fn both_ways<T: Ord>(a: &T, b: &T) -> (Ordering, Ordering) {
+pub(crate) fn both_ways<T: Ord>(a: &T, b: &T) -> (Ordering, Ordering) {
     (a.cmp(b), b.cmp(a))
 }
 
 // What admission tells of the lists.
-pub fn admission<'a>(
+pub(crate) fn admission<'a>(
     nodes: &'a [Node],
     releases: &'a [ReleaseEdge],
     texts: &'a [TextEdge],
@@ -43,28 +43,28 @@ pub fn admission<'a>(
     told(Diagram::admit(nodes, releases, texts))
 }
 
-// What admission tells of the node alone.
-pub fn first(node: Node, releases: &[ReleaseEdge], texts: &[TextEdge]) -> [usize; 4] {
+// What admission tells of the node alone. The two lists are two parameters here and below, as those of `admit` are.
+pub(crate) fn first(node: Node, releases: &[ReleaseEdge], texts: &[TextEdge]) -> [usize; 4] {
     admission(&[node], releases, texts)
 }
 
 // What it tells of the node behind two others.
-pub fn third(node: Node, releases: &[ReleaseEdge], texts: &[TextEdge]) -> [usize; 4] {
+pub(crate) fn third(node: Node, releases: &[ReleaseEdge], texts: &[TextEdge]) -> [usize; 4] {
     admission(&[node_of(5, 0), node_of(4, 0), node], releases, texts)
 }
 
 // Both.
-pub fn placed(node: Node, releases: &[ReleaseEdge], texts: &[TextEdge]) -> [[usize; 4]; 2] {
+pub(crate) fn placed(node: Node, releases: &[ReleaseEdge], texts: &[TextEdge]) -> [[usize; 4]; 2] {
     [first(node, releases, texts), third(node, releases, texts)]
 }
 
 // A refusal of the node at either place.
-pub fn refused(number: usize, layer: usize, second: usize) -> [[usize; 4]; 2] {
+pub(crate) fn refused(number: usize, layer: usize, second: usize) -> [[usize; 4]; 2] {
     [[number, layer, 0, second], [number, layer, 2, second]]
 }
 
 // The release of the numbers, 0 where they make none.
-pub fn release(numbers: &[u64]) -> Release {
+pub(crate) fn release(numbers: &[u64]) -> Release {
     let none = Release {
         count: 1,
         numbers: [0; 8],
@@ -73,7 +73,7 @@ pub fn release(numbers: &[u64]) -> Release {
 }
 
 // The text of the bytes, empty where they make none.
-pub fn text(bytes: &[u8]) -> Text {
+pub(crate) fn text(bytes: &[u8]) -> Text {
     let none = Text {
         length: 0,
         bytes: [0; 64],
@@ -81,7 +81,7 @@ pub fn text(bytes: &[u8]) -> Text {
     Text::new(bytes).unwrap_or(none)
 }
 
-pub fn edge<T>(lower: Bound<T>, upper: Bound<T>, child: u32) -> Edge<T> {
+pub(crate) fn edge<T>(lower: Bound<T>, upper: Bound<T>, child: u32) -> Edge<T> {
     Edge {
         lower,
         upper,
@@ -90,7 +90,7 @@ pub fn edge<T>(lower: Bound<T>, upper: Bound<T>, child: u32) -> Edge<T> {
 }
 
 // Below 3.8, and from 3.8 on.
-pub fn releases(below: u32, above: u32) -> [ReleaseEdge; 2] {
+pub(crate) fn releases(below: u32, above: u32) -> [ReleaseEdge; 2] {
     let at = release(&[3, 8]);
     [
         edge(Bound::Unbounded, Bound::Excluded(at), below),
@@ -99,7 +99,7 @@ pub fn releases(below: u32, above: u32) -> [ReleaseEdge; 2] {
 }
 
 // Up to `linux`, and above it.
-pub fn texts(below: u32, above: u32) -> [TextEdge; 2] {
+pub(crate) fn texts(below: u32, above: u32) -> [TextEdge; 2] {
     let at = text(b"linux");
     [
         edge(Bound::Unbounded, Bound::Included(at), below),
@@ -108,7 +108,7 @@ pub fn texts(below: u32, above: u32) -> [TextEdge; 2] {
 }
 
 // A node that breaks no rule of its kind where the key fits: the first two edges, children TRUE and FALSE, literal `a`.
-pub fn node_of(kind: u8, key: u8) -> Node {
+pub(crate) fn node_of(kind: u8, key: u8) -> Node {
     Node {
         kind,
         key,
@@ -121,7 +121,7 @@ pub fn node_of(kind: u8, key: u8) -> Node {
 }
 
 // A node with edges, of kind 0 or 1. It has nothing that could be read as a literal or a child.
-pub fn ranged(kind: u8, first: u32, count: u32) -> Node {
+pub(crate) fn ranged(kind: u8, first: u32, count: u32) -> Node {
     Node {
         literal: text(b"-"),
         first,
@@ -133,7 +133,7 @@ pub fn ranged(kind: u8, first: u32, count: u32) -> Node {
 }
 
 // A node with a high and a low child, of kind 2 to 5. It has no edges.
-pub fn branching(kind: u8, high: u32, low: u32) -> Node {
+pub(crate) fn branching(kind: u8, high: u32, low: u32) -> Node {
     Node {
         first: u32::MAX,
         count: u32::MAX,
