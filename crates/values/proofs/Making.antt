@@ -1,6 +1,8 @@
 -- What making a release or a text answers.
-use Rattle.std.proofs.Common.{◌≡◌, ℕ, suc, ◌-◌, ◌<◌, ◌≤◌, min, true, false, eqb, ltb, ◌⊎◌, List, [], ◌∷◌, ◌++◌, map, length, get_or, take, drop, replicate, Some, None, Ok, Err, Option, Result, ◌≢◌, sym, refl, ap, ◌∙◌, subst, inl, inr, arith}
-use Rattle.std.proofs.lemmas.List.{take_at, take_all}
+use Rattle.std.proofs.Common.{◌≡◌, ℕ, suc, ◌-◌, ◌<◌, ◌≤◌, min, true, false, eqb, ltb, ◌⊎◌, List, [], ◌∷◌, ◌++◌, map, length, get_or, take, drop, replicate, Some, None, Ok, Err, Option, Result, ◌≢◌, sym, refl, ap, ◌∙◌, subst, inl, inr, arith, length-append}
+use Rattle.std.proofs.lemmas.List.{take_at, take_all, get_or-take, get_or-append_right, get_or-replicate, get_or_past, length-take, length-replicate}
+use Rattle.std.proofs.lemmas.Grind.{same_number_lists}
+use Rattle.std.proofs.Math.ListN.{get_or-append}
 use Rattle.std.proofs.lemmas.Bool.{cases_Bool, cases_lt, or_cases, or_parts, or_left, or_right, eqb-true, eqb-false, eq-eqb, ltb-true, ltb-false, lt-ltb, le-ltb}
 use Rattle.std.specs.List.{position_from}
 use Rattle.values.specs.Releases.{largest, most_numbers, release_count, release_numbers, stored_release, wrong_count, unless_large, made_release, count, large, MakesRelease}
@@ -120,3 +122,25 @@ none_long bs stored few e =
     let small : ltb most_bytes (length bs) ≡ false = le-ltb most_bytes (length bs) few in
     ap (λ (s : List ℕ). Ok (record { length = length bs; bytes = s })) (e ∙ ap (λ (xs : List ℕ). xs ++ replicate (most_bytes - length bs) 0) (take_all most_bytes bs few))
     ∙ rw small refl
+
+-- ---- numbers, and zeros behind them
+
+place_filled : (ns : List ℕ) (i : ℕ) → i < most_numbers → get_or (take most_numbers ns ++ replicate (most_numbers - length ns) 0) i 0 ≡ get_or ns i 0
+place_filled ns i lt =
+    elim (cases_lt i (length ns)) [
+      | inl h ↦
+          let some : i < length (take most_numbers ns) = omega (arith, length-take most_numbers ns) in
+          get_or-append (take most_numbers ns) (replicate (most_numbers - length ns) 0) 0 i some ∙ get_or-take most_numbers ns i 0 lt
+      | inr h ↦
+          let all : length (take most_numbers ns) ≡ length ns = omega (arith, length-take most_numbers ns) in
+          let few : i - length ns < most_numbers - length ns = omega arith in
+          get_or-append_right (take most_numbers ns) (replicate (most_numbers - length ns) 0) (length ns) i 0 all h
+          ∙ get_or-replicate (most_numbers - length ns) (i - length ns) 0 0 few
+          ∙ sym (get_or_past ns i 0 h)
+    ]
+
+-- eight places that hold the numbers at hand, and else zero
+pub filled_by_place : (ns ys : List ℕ) → length ys ≡ most_numbers → ((i : ℕ) → i < most_numbers → get_or ys i 0 ≡ get_or ns i 0) → ys ≡ take most_numbers ns ++ replicate (most_numbers - length ns) 0
+filled_by_place ns ys long same =
+    let all : length ys ≡ length (take most_numbers ns ++ replicate (most_numbers - length ns) 0) = simp (length-append, length-replicate) (omega (arith, length-take most_numbers ns)) in
+    same_number_lists ys (take most_numbers ns ++ replicate (most_numbers - length ns) 0) all (λ i lt. same i (omega arith) ∙ sym (place_filled ns i (omega arith)))

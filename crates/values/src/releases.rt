@@ -1,13 +1,12 @@
 ghost use Rattle.std.specs.Cmp.{partial_equiv_from_equiv, partial_order_from_total, eq_by_cmp_equiv};
 ghost use Rattle.std.specs.Ordering.{as_partial_cmp, eq_by_cmp, on, MatchOrdering};
-ghost use Rattle.std.specs.Prelude.{◌≡◌, refl, ℕ, ◌+◌, ◌<◌, ◌≤◌, length, nat_lt};
+ghost use Rattle.std.specs.Prelude.{◌≡◌, refl, ℕ, ◌+◌, ◌<◌, ◌≤◌, ◌-◌, ◌++◌, length, take, replicate, nat_lt};
 ghost use Rattle.std.specs.List.{position_from};
 ghost use Rattle.values.specs.Rows.{by_row};
 ghost use Rattle.values.specs.Lines.{releases_total};
-ghost use Rattle.values.specs.Releases.{largest, release_row, Before, Same, release_count, number as the_number, made_release, MakesRelease};
+ghost use Rattle.values.specs.Releases.{largest, most_numbers, release_row, Before, Same, release_count, number as the_number, made_release, MakesRelease};
 
 use crate::faults::Fault;
-use crate::stored::padded;
 use std::cmp::Ordering;
 
 // The largest number of a release.
@@ -31,6 +30,13 @@ fn first_too_large(numbers: &[u64]) -> Option<usize>
     numbers.iter().position(|number| *number > LARGEST)
 }
 
+// The numbers, and zeros behind them. Place by place: a copy of as many as there are takes twice the time here.
+fn zero_filled(numbers: &[u64]) -> [u64; MOST_NUMBERS]
+    ensures { result ≡ take most_numbers numbers.now ++ replicate (most_numbers - length numbers.now) 0 }
+{
+    std::array::from_fn(|place| numbers.get(place).copied().unwrap_or(0))
+}
+
 impl Release {
     // The release of a list of numbers: refusal 1 for a wrong count, then 2.
     pub fn new(numbers: &[u64]) -> Result<Release, Fault>
@@ -45,15 +51,15 @@ impl Release {
         }
         Ok(Release {
             count: numbers.len() as u8,
-            numbers: padded(numbers, 0),
+            numbers: zero_filled(numbers),
         })
     }
 
-    // How many numbers are written.
+    // How many numbers are written. With `clamp`, comparing releases takes twice the time.
     pub fn written(&self) -> usize
         ensures { result ≡ release_count self.now }
     {
-        (self.count as usize).clamp(1, MOST_NUMBERS)
+        (self.count as usize).min(MOST_NUMBERS).max(1)
     }
 
     // The number at a place, 0 behind those that are written.

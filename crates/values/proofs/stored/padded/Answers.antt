@@ -1,4 +1,4 @@
-use Rattle.std.proofs.Common.{◌≡◌, ℕ, ◌-◌, min, List, ◌++◌, length, take, drop, replicate, ap, ◌∙◌, arith}
+use Rattle.std.proofs.Common.{◌≡◌, ℕ, ◌-◌, min, List, ◌++◌, length, take, drop, replicate, ap, ◌∙◌, arith, rules}
 use Rattle.std.proofs.lemmas.List.{take_min, drop-replicate}
 use Rattle.values.proofs.stored.padded.Goals as goal
 
@@ -10,4 +10,4 @@ filled n k xs ys r e h =
     ∙ ap (λ zs. take n xs ++ zs) (drop-replicate k n r ∙ ap (λ m. replicate m r) behind)
 
 pub returns : goal.returns
-returns g c = filled g.row.N c.min-kept.result c.args.items.now c.copy_from_slice.new.self c.args.rest (omega arith) c.copy_from_slice.ensures.after
+returns g c = filled g.row.N c.min-kept.result c.args.items.now c.copy_from_slice.new.self c.args.rest (omega arith) (search (rules, c.copy_from_slice.ensures.after))

@@ -25,6 +25,6 @@ returns c =
     let ns = c.args.numbers.now in
     let some = eqb-false (length ns) 0 (sym c.if-is_empty.ensures) in
     let none : position_from (ltb largest) 0 ns ≡ None = sym c.in_default.ensures in
-    let r : Release = record { count = length ns; numbers = c.padded.result } in
-    let answer : Ok r ≡ made_release ns = none_large ns c.padded.result some (omega arith) none c.padded.ensures in
+    let r : Release = record { count = length ns; numbers = c.zero_filled.result } in
+    let answer : Ok r ≡ made_release ns = none_large ns c.zero_filled.result some (omega arith) none c.zero_filled.ensures in
     record { answer = answer; law = release_law ns (Ok r) answer }
