@@ -175,15 +175,17 @@ fn read_list<V: Written>(heap: Global, word: &[u8], mark: u8) -> Result<Vec<V>, 
 }
 
 // The number that decimal digits write, where it has 64 bits at most.
-#[tactic(auto, using(crate::proofs::Numerals::text_from_numeral))]
 fn decimal(digits: &[u8]) -> Option<u64>
     ensures { SomeIff result (IsNumeral 10 digits.now × (value_in 10 digits.now < 2 ^ 64)) (value_in 10 digits.now) }
 {
-    // A sign may stand before what `parse` reads, and before no number of a script.
-    if let [b'+', ..] = digits {
+    if digits.is_empty() {
         return None;
     }
-    str::from_utf8(digits).ok()?.parse().ok()
+    // Not `parse`, which takes text: that has to be tested first, and takes up to twice the time.
+    digits.iter().try_fold(0u64, |number, byte| {
+        let digit = (*byte as char).to_digit(10)?;
+        number.checked_mul(10)?.checked_add(digit as u64)
+    })
 }
 
 // The value of a hexadecimal digit in lower case.

@@ -6,10 +6,10 @@ use Rattle.std.specs.Iterator.Runs.{Run, IsWindowsRun, AnyItemGives, AllItemsGiv
 use Rattle.std.specs.List.{IsSubsliceAt}
 use Rattle.std.proofs.Math.Seq.{take-append_seam, drop-append_seam}
 use Rattle.std.specs.Cmp.Lexicographic.{pointwise}
-use Rattle.std.proofs.lemmas.Slice.Eq.{starts_is}
+use Rattle.std.proofs.lemmas.Slice.Eq.{starts_is, slice_eq-Decides}
 use Rattle.std.proofs.lemmas.Option.{none-some}
 use Rattle.std.specs.Option.{option_map, IfSome, IsSomeAnd}
-use Rattle.std.proofs.lemmas.List.{take-append-drop}
+use Rattle.std.proofs.lemmas.List.{take-append-drop, take_all}
 use Rattle.std.proofs.lemmas.Bool.{and_parts, and_from, or_cases, or_left, or_right, eqb-true, eq-eqb, true≢false}
 use Rattle.std.proofs.lemmas.Bool.Decides.{same_from_decides, Decides-eqb}
 use Rattle.evaluation.specs.Substrings.{begins, contained, Within}
@@ -64,18 +64,18 @@ pub contained_says : (part text : List ℕ) → Decides (contained part text) (W
 contained_says part text = (contained_from part text, λ w. contained_to part text w.before w.behind w.is)
 
 -- what the windows of a text answer, each of them whether it is the part
-module _ {S F : Type 0} {steps : S → Option (Bor (List ℕ)) → S → Type 0} {g : Mut F (Bor (List ℕ) × Unit {0}) Bool} (part text : List ℕ) (p : Run steps) (run : IsWindowsRun p (length part) text) (f : F) (same : (x : Bor (List ℕ)) (b : Bool) → Called g f (x, tt) b f → Decides b (x.now ≡ part)) where
+module _ {S F : Type 0} {steps : S → Option (Bor (List ℕ)) → S → Type 0} {g : Mut F (Bor (List ℕ) × Unit {0}) Bool} (part text : List ℕ) (p : Run steps) (run : IsWindowsRun p (length part) text) (f : F) (same : (x : Bor (List ℕ)) (b : Bool) → length x.now ≡ length part → Called g f (x, tt) b f → Decides b (x.now ≡ part)) where
   some_window : (k : ℕ) (o : Option (Bor (List ℕ))) → IfSome o (λ x. (length x.now ≡ length part) × (k + length part ≤ length text) × IsSubsliceAt (length part) text k x.now) → IsSomeAnd o (λ x. Called g f (x, tt) true f) → Within part text
   some_window k None w a = absurd a
   some_window k (Some x) w a = record {
     before = take k text;
     behind = drop (length part) (drop k text);
-    is = sym (take-append-drop k text) ∙ ap (λ (xs : List ℕ). take k text ++ xs) (sym (take-append-drop (length part) (drop k text))) ∙ ap (λ (xs : List ℕ). take k text ++ (xs ++ drop (length part) (drop k text))) (sym w.2.0 ∙ (same x true a).0 refl);
+    is = sym (take-append-drop k text) ∙ ap (λ (xs : List ℕ). take k text ++ xs) (sym (take-append-drop (length part) (drop k text))) ∙ ap (λ (xs : List ℕ). take k text ++ (xs ++ drop (length part) (drop k text))) (sym w.2.0 ∙ (same x true w.0 a).0 refl);
   }
 
   no_window : (k : ℕ) (o : Option (Bor (List ℕ))) → IfSome o (λ x. (length x.now ≡ length part) × (k + length part ≤ length text) × IsSubsliceAt (length part) text k x.now) → IfSome o (λ x. Called g f (x, tt) false f) → is_some o ≡ true → take (length part) (drop k text) ≡ part → ⊥
   no_window k None w a e here = true≢false (sym e)
-  no_window k (Some x) w a e here = true≢false (sym ((same x false a).1 (w.2.0 ∙ here)))
+  no_window k (Some x) w a e here = true≢false (sym ((same x false w.0 a).1 (w.2.0 ∙ here)))
 
   pub windows_say : (r : Bool) → CallKeepsClosure g f → MatchBool r (AnyItemGives p g f true) (IsTrue p.whole × AllItemsGive p g f false) → Decides r (Within part text)
   windows_say true keeps m = let a = m keeps in (λ e. some_window a.0 (p.at a.0) (run.2 a.0) a.2, λ w. refl)
@@ -95,6 +95,13 @@ module _ {S F : Type 0} {steps : S → Option (Bor (List ℕ)) → S → Type 0}
       shown : {y : ℕ} (o : Option (Bor (List ℕ))) → option_map (λ x. get_or x.now 0 0) o ≡ Some y → is_some o ≡ true
       shown None e = absurd (none-some _ e)
       shown (Some x) e = refl
+
+-- what `starts_with` answers of a text as long as the part
+pub starts_whole : (part text : List ℕ) (r : Bool) → r ≡ pointwise eqb part (take (length part) text) → length text ≡ length part → Decides r (text ≡ part)
+starts_whole part text r m e =
+    let whole : take (length part) text ≡ text = take_all (length part) text (omega arith) in
+    let same = slice_eq-Decides Decides-eqb part (take (length part) text) r m in
+    (λ t. sym whole ∙ sym (same.0 t), λ q. same.1 (sym (whole ∙ q)))
 
 -- the empty part stands everywhere
 pub empty_within : (part text : List ℕ) → length part ≡ 0 → Within part text
