@@ -1,14 +1,14 @@
 -- The search for a part in a text.
-use Rattle.std.proofs.Common.{◌≡◌, ℕ, ◌+◌, ◌<◌, ◌≤◌, Bool, true, false, eqb, List, [], ◌∷◌, ◌++◌, length, length-append, get_or, take, drop, Decides, Bor, Option, Some, None, is_some, sym, refl, ap, ◌∙◌, inl, inr, arith}
+use Rattle.std.proofs.Common.{◌≡◌, ℕ, ◌+◌, ◌-◌, ◌<◌, ◌≤◌, Bool, true, false, ◌&&◌, eqb, List, [], ◌∷◌, ◌++◌, length, length-append, get_or, take, drop, Decides, Bor, Option, Some, None, is_some, sym, refl, ap, ◌∙◌, inl, inr, arith}
 use Rattle.std.specs.Bool.{IsTrue, MatchBool}
 use Rattle.std.specs.Fn.{Called, Mut}
 use Rattle.std.specs.Iterator.Runs.{Run, IsWindowsRun, AnyItemGives, AllItemsGive, CallKeepsClosure}
-use Rattle.std.specs.List.{IsSubsliceAt}
+use Rattle.std.specs.List.{IsSubsliceAt, slice_get, starts_with}
 use Rattle.std.proofs.Math.Seq.{take-append_seam, drop-append_seam}
 use Rattle.std.specs.Cmp.Lexicographic.{pointwise}
 use Rattle.std.proofs.lemmas.Slice.Eq.{starts_is, slice_eq-Decides}
 use Rattle.std.proofs.lemmas.Option.{none-some}
-use Rattle.std.specs.Option.{option_map, IfSome, IsSomeAnd}
+use Rattle.std.specs.Option.{option_eq, option_map, IfSome, IsSomeAnd}
 use Rattle.std.proofs.lemmas.List.{take-append-drop, take_all}
 use Rattle.std.proofs.lemmas.Bool.{and_parts, and_from, or_cases, or_left, or_right, eqb-true, eq-eqb, true≢false}
 use Rattle.std.proofs.lemmas.Bool.Decides.{same_from_decides, Decides-eqb}
@@ -96,12 +96,20 @@ module _ {S F : Type 0} {steps : S → Option (Bor (List ℕ)) → S → Type 0}
       shown None e = absurd (none-some _ e)
       shown (Some x) e = refl
 
--- what `starts_with` answers of a text as long as the part
-pub starts_whole : (part text : List ℕ) (r : Bool) → r ≡ pointwise eqb part (take (length part) text) → length text ≡ length part → Decides r (text ≡ part)
-starts_whole part text r m e =
-    let whole : take (length part) text ≡ text = take_all (length part) text (omega arith) in
-    let same = slice_eq-Decides Decides-eqb part (take (length part) text) r m in
-    (λ t. sym whole ∙ sym (same.0 t), λ q. same.1 (sym (whole ∙ q)))
+-- the first elements and what stands behind them answer together whether a text as long as the part is the part
+pub first_and_rest : (part text : List ℕ) (r : Bool) → length text ≡ length part → r ≡ (option_eq eqb (slice_get text 0) (slice_get part 0) && starts_with eqb (take (length text - 1) (drop 1 text)) (take (length part - 1) (drop 1 part))) → Decides r (text ≡ part)
+first_and_rest [] [] r e m = (λ t. refl, λ q. m)
+first_and_rest [] (t ∷ text) r e m = absurd (omega arith)
+first_and_rest (p ∷ part) [] r e m = absurd (omega arith)
+first_and_rest (p ∷ part) (t ∷ text) r e m =
+    let whole : take (length (p ∷ part) - 1) part ≡ part = take_all (length (p ∷ part) - 1) part (omega arith) in
+    let all : take (length (t ∷ text) - 1) text ≡ text = take_all (length (t ∷ text) - 1) text (omega arith) in
+    let same_length : take (length part) text ≡ text = take_all (length part) text (omega arith) in
+    let m2 : r ≡ (eqb t p && pointwise eqb part text) = rw (whole, all, same_length) at m in
+    let same = slice_eq-Decides Decides-eqb part text (pointwise eqb part text) refl in (
+      λ y. let q = and_parts (eqb t p) (pointwise eqb part text) (sym m2 ∙ y) in let h : t ≡ p = eqb-true t p q.0 in let k : part ≡ text = same.0 q.1 in cc,
+      λ y. let h : t ≡ p = cc in let k : part ≡ text = cc in m2 ∙ and_from (eqb t p) (pointwise eqb part text) (eq-eqb t p h) (same.1 k),
+    )
 
 -- the empty part stands everywhere
 pub empty_within : (part text : List ℕ) → length part ≡ 0 → Within part text

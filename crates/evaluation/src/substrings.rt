@@ -6,9 +6,9 @@ pub fn contains(text: &[u8], part: &[u8]) -> bool
     ensures answer { result ≡ contained part.now text.now }
     ensures law { Decides result (Within part.now text.now) }
 {
-    // Not `window == part`: where the first bytes agree, that took up to three times as long.
+    // The first byte is asked apart, since most windows differ there; where it agrees, `window == part` took up to three
+    // times as long.
     part.is_empty()
-        || text
-            .windows(part.len())
-            .any(|window| window.starts_with(part))
+        || text.windows(part.len()).any(|window| window[0] == part[0]
+            && window[1..].starts_with(&part[1..]))
 }
